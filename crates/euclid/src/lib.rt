@@ -1,0 +1,35 @@
+// The greatest common divisor of two numbers and the division count of the pair, by one recursion that serves
+// the lowest terms of a fraction, the least common multiple and every pair of trains. No call has a `requires`.
+ghost use mathlib.Core.Path.{_≡_};
+ghost use Rattle.euclid.specs.Divisor.{euclid, common};
+
+// What is common to two numbers: their greatest common divisor, and the remainders that finding it took.
+pub struct Common {
+    pub divisor: u64,
+    pub divisions: u32,
+}
+
+// Euclid's method, begun on a and b as they stand: it calls itself on the divisor and the falling remainder.
+fn method(a: u64, b: u64) -> Common
+    ensures { λ r. ⌜ r ≡ euclid a b ⌝ }
+{
+    if b == 0 {
+        return Common {
+            divisor: a,
+            divisions: 0,
+        };
+    }
+    let rest = method(b, a % b);
+    Common {
+        divisor: rest.divisor,
+        divisions: rest.divisions + 1,
+    }
+}
+
+// The greatest common divisor of a and b, and the division count of the pair: larger number first, so that the
+// order of the two makes no difference, and 0 where either is 0. The divisor of 0 and 0 is 0.
+pub fn common_divisor(a: u64, b: u64) -> Common
+    ensures { λ r. ⌜ r ≡ common a b ⌝ }
+{
+    if a < b { method(b, a) } else { method(a, b) }
+}
