@@ -1,0 +1,3 @@
+-- What refusal promises. Read Paper (the paper's table of refusal numbers), then Promises.
+pub mod Paper
+pub mod Promises
