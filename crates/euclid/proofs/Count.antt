@@ -10,7 +10,8 @@ use native.Mathlib.Decide.{decLe}
 use native.Mathlib.Omega.{arith}
 use borrow.Author.Tests.{lt-ltb, le-ltb}
 use Rattle.euclid.specs.declared.Common.{Common}
-use Rattle.euclid.specs.Divisor.{Euclid, euclidWithin, euclid, gcd, divisions, common}
+use Rattle.euclid.specs.Divisor.{Euclid}
+use Rattle.euclid.specs.Answer.{euclidWithin, euclid, gcd, divisions, common}
 use Rattle.euclid.proofs.Euclid.{euclid-zero, euclid-step, euclid-runs, euclid-only}
 use Rattle.euclid.proofs.Divisor.{gcd-comm}
 
@@ -36,11 +37,11 @@ divisions-smaller a b h = rw (lt-ltb a b h)
 
 -- the pair's answer is the method's, larger number first
 pub common-larger : (a b : ℕ) → b ≤ a → euclid a b ≡ common a b
-unfolding common gcd
+unfolding gcd
 common-larger a b h = ap (λ (n : ℕ). record { divisor = gcd a b; divisions = n }) (sym (divisions-larger a b h))
 
 pub common-smaller : (a b : ℕ) → a < b → euclid b a ≡ common a b
-unfolding common gcd
+unfolding gcd
 common-smaller a b h = λ i. record { divisor = gcd-comm b a i; divisions = sym (divisions-smaller a b h) i }
 
 -- ---- Lamé

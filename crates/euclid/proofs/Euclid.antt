@@ -6,7 +6,8 @@ use mathlib.Core.Path.{_≡_, refl, sym, ap, _∙_}
 use native.Mathlib.Nat.{mod-lt, zero-lt-suc, le-refl, not-suc-le-zero}
 use native.Mathlib.Omega.{arith}
 use Rattle.euclid.specs.declared.Common.{Common}
-use Rattle.euclid.specs.Divisor.{Euclid, ends, takes, after-one, euclidWithin, euclid, gcd}
+use Rattle.euclid.specs.Divisor.{Euclid, ends, takes}
+use Rattle.euclid.specs.Answer.{oneMore, euclidWithin, euclid, gcd}
 
 -- ---- Core laws
 
@@ -21,18 +22,18 @@ within-enough (suc f) zero a (suc b) p q = absurd (not-suc-le-zero q)
 within-enough (suc f) (suc h) a zero p q = refl
 within-enough (suc f) (suc h) a (suc b) p q =
     let l = mod-lt a (zero-lt-suc b) in
-    ap after-one (within-enough f h (suc b) (a % suc b) (omega arith) (omega arith))
+    ap oneMore (within-enough f h (suc b) (a % suc b) (omega arith) (omega arith))
 
 pub euclid-zero : (a : ℕ) → euclid a 0 ≡ record { divisor = a; divisions = 0 }
 unfolding euclid euclidWithin
 euclid-zero a = refl
 
-pub euclid-step : (a b : ℕ) → 0 < b → euclid a b ≡ after-one (euclid b (a % b))
+pub euclid-step : (a b : ℕ) → 0 < b → euclid a b ≡ oneMore (euclid b (a % b))
 unfolding euclid euclidWithin
 euclid-step a zero h = absurd (not-suc-le-zero h)
 euclid-step a (suc b) h =
     let l = mod-lt a (zero-lt-suc b) in
-    ap after-one (within-enough b (a % suc b) (suc b) (a % suc b) (omega arith) (le-refl (a % suc b)))
+    ap oneMore (within-enough b (a % suc b) (suc b) (a % suc b) (omega arith) (le-refl (a % suc b)))
 
 -- Euclid's induction: what holds at (a, 0), and at (a, b) where it holds at (b, a % b), holds everywhere.
 module _ (P : ℕ → ℕ → Type 0) (base : (a : ℕ) → P a 0) (step : (a b : ℕ) → 0 < b → P b (a % b) → P a b) where
@@ -57,4 +58,4 @@ euclid-runs =
 
 pub euclid-only : {a b g n : ℕ} → Euclid a b g n → euclid a b ≡ record { divisor = g; divisions = n }
 euclid-only (ends {a = a}) = euclid-zero a
-euclid-only (takes {a = a} {b = b} h run) = euclid-step a b h ∙ ap after-one (euclid-only run)
+euclid-only (takes {a = a} {b = b} h run) = euclid-step a b h ∙ ap oneMore (euclid-only run)

@@ -3,9 +3,10 @@
 -- Assumes nothing.
 use Prim.Native.Nat.{ℕ, zero, suc, _+_, _*_, _/_, _<_, _≤_, _∣_}
 use mathlib.Core.Path.{_≡_, refl, sym, ap, _∙_}
-use native.Mathlib.Nat.{dvd-zero, dvd-mul-left, dvd-mul-right, dvd-mul-right-of-dvd, mul-dvd-mul-left, dvd-antisymm, dvd-add-iff-right, dvd-of-mul-dvd-mul-left, eq-zero-of-zero-dvd, mul-div-cancel', mul-comm, mul-le-mul-right, mul-pos, pos-of-dvd-of-pos, zero-lt-suc}
+use native.Mathlib.Nat.{dvd-zero, dvd-mul-left, dvd-mul-right, dvd-mul-right-of-dvd, mul-dvd-mul-left, dvd-antisymm, dvd-add-iff-right, dvd-of-mul-dvd-mul-left, eq-zero-of-zero-dvd, mul-div-cancel', mul-comm, mul-le-mul-right, mul-pos, pos-of-dvd-of-pos, dvd-refl, dvd-trans, one-dvd, zero-lt-suc}
 use native.Mathlib.Omega.{arith}
-use Rattle.euclid.specs.Divisor.{IsLcm, Bezout, gcd, lcm}
+use Rattle.euclid.specs.Divisor.{IsLcm, Bezout}
+use Rattle.euclid.specs.Answer.{gcd, lcm}
 use Rattle.euclid.proofs.Divisor.{gcd-is, gcd-pos-left, gcd-comm, bezout}
 
 -- ---- Core laws
@@ -60,3 +61,18 @@ lcm-pos a b ha hb = pos-of-dvd-of-pos (lcm-is a b .least (a * b) (dvd-mul-right 
 
 pub lcm-le-mul : (a b : ℕ) → 0 < a → lcm a b ≤ a * b
 lcm-le-mul a b h = omega (arith, gcd-mul-lcm a b, mul-le-mul-right (lcm a b) (gcd-pos-left a b h))
+
+pub lcm-one : (a : ℕ) → lcm a 1 ≡ a
+lcm-one a = sym (lcm-only a 1 a (record { left = dvd-refl a; right = one-dvd a; least = λ m p q. p }))
+
+pub lcm-assoc : (a b c : ℕ) → lcm (lcm a b) c ≡ lcm a (lcm b c)
+lcm-assoc a b c =
+    let ab = lcm-is a b in
+    let bc = lcm-is b c in
+    let l = lcm-is (lcm a b) c in
+    lcm-only a (lcm b c) (lcm (lcm a b) c)
+    (record {
+      left = dvd-trans a (ab .left) (l .left);
+      right = bc .least (lcm (lcm a b) c) (dvd-trans b (ab .right) (l .left)) (l .right);
+      least = λ m p q. l .least m (ab .least m p (dvd-trans b (bc .left) q)) (dvd-trans c (bc .right) q);
+    })

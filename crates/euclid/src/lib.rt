@@ -1,7 +1,7 @@
 // The greatest common divisor of two numbers and the division count of the pair, by one recursion that serves
 // the lowest terms of a fraction, the least common multiple and every pair of trains. No call has a `requires`.
 ghost use mathlib.Core.Path.{_≡_};
-ghost use Rattle.euclid.specs.Divisor.{euclid, common};
+ghost use Rattle.euclid.specs.Answer.{euclid, common};
 
 // What is common to two numbers: their greatest common divisor, and the remainders that finding it took.
 pub struct Common {

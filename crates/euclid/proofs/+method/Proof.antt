@@ -9,7 +9,7 @@ use borrow.Author.Needs.{needs}
 use borrow.Fn.Kinds.{In}
 use borrow.Fn.PlainCycle.{Measures, is, falls, and}
 use Rattle.euclid.specs.declared.Common.{Common}
-use Rattle.euclid.specs.Divisor.{euclid, after-one}
+use Rattle.euclid.specs.Answer.{euclid, oneMore}
 use Rattle.euclid.proofs.Euclid.{euclid-zero, euclid-step}
 use Rattle.euclid.proofs.Count.{remainders-word}
 use Rattle.euclid.proofs.method.Reads as method
@@ -53,7 +53,7 @@ method-returns-2 :
     (t : ℕ) → method-lts.Need-returns-2 (method-below t, method.Post) (method-at t) method.Post
 method-returns-2 t c =
     rw (add-one _)
-    (ap after-one (c .before .method .ensures) ∙ sym (euclid-step _ _ (pos-of-ne-zero (c .before .before .if1 .left))))
+    (ap oneMore (c .before .method .ensures) ∙ sym (euclid-step _ _ (pos-of-ne-zero (c .before .before .if1 .left))))
 
 pub +method-spec : {M : Type 1} → statement M
 +method-spec =
