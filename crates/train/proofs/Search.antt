@@ -8,7 +8,8 @@ use native.Mathlib.Omega.{arith}
 use Rattle.euclid.specs.Answer.{gcd, lcm}
 use Rattle.train.specs.declared.Train.{Train}
 use Rattle.train.specs.declared.CommonTick.the-variants.{Never, At}
-use Rattle.train.specs.Claims.{maxTicks, Both, InOrder, Stroke}
+use Rattle.train.specs.Claims.{maxTicks, Both}
+use Rattle.train.specs.Search.{InOrder, Stroke}
 use Rattle.train.specs.Answer.{both, firstFrom}
 use Rattle.train.proofs.Claims.{both-is, both-not}
 use Rattle.train.proofs.First.{first-at, first-never, first-more, first-skip}

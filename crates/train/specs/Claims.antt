@@ -7,8 +7,7 @@
 --     Collide a b               some tick is
 --     Least P t                 t is the least number that has P
 --     Expression early late     Korst's expression (1)
-use Prim.Native.Nat.{ℕ, _+_, _-_, _%_, _<_, _≤_, _^_}
-use mathlib.Core.Path.{_≡_}
+use Prim.Native.Nat.{ℕ, _+_, _-_, _%_, _<_, _≤_}
 use Rattle.euclid.specs.Answer.{gcd}
 use Rattle.train.specs.declared.Train.{Train}
 
@@ -56,16 +55,3 @@ offset early late = (late .phase - early .phase) % gcd (early .period) (late .pe
 pub record Expression (early late : Train) : Type 0 where
   pub after : early .duration ≤ offset early late
   pub before : offset early late + late .duration ≤ gcd (early .period) (late .period)
-
--- Two trains within the limits, the one with the earlier phase first: what the search is given.
-pub record InOrder (early late : Train) : Type 0 where
-  pub early-limits : Limits early
-  pub late-limits : Limits late
-  pub order : early .phase ≤ late .phase
-
--- And a stroke of the later train, not so far that the clock's 64 bits run out.
-pub record Stroke (early late : Train) (start : ℕ) : Type 0 where
-  pub trains : InOrder early late
-  pub from : late .phase ≤ start
-  pub stroke : (start - late .phase) % late .period ≡ 0
-  pub near : start < 2 ^ 63

@@ -3,7 +3,8 @@
 ghost use mathlib.Core.Path.{_≡_};
 ghost use Prim.Native.Nat.{_≤_, _<_, _^_};
 ghost use Rattle.euclid.specs.Answer.{lcm};
-ghost use Rattle.train.specs.Claims.{maxTicks, InOrder, Stroke};
+ghost use Rattle.train.specs.Claims.{maxTicks};
+ghost use Rattle.train.specs.Search.{InOrder, Stroke};
 ghost use Rattle.train.specs.Answer.{withinLimits, expression, pair, both, firstFrom, earliest};
 
 // From its phase on, and once a period, a train holds the processor for its duration. All three are ticks.

@@ -1,6 +1,6 @@
 -- `method` meets its contract: at a zero it has ended, and otherwise it is one remainder more than the call of itself.
 -- The measure is the second number, which falls to the remainder. Assumes nothing.
-use Prim.Native.Nat.{ℕ, _<_, _%_}
+use Prim.Native.Nat.{ℕ, _+_, _<_, _%_}
 use mathlib.Core.Path.{_≡_, sym, ap, _∙_}
 use native.Mathlib.Nat.{mod-lt, pos-of-ne-zero}
 use native.Mathlib.Numerals.{add-one}
@@ -52,8 +52,12 @@ method-add-t6 t c =
 method-returns-2 :
     (t : ℕ) → method-lts.Need-returns-2 (method-below t, method.Post) (method-at t) method.Post
 method-returns-2 t c =
-    rw (add-one _)
-    (ap oneMore (c .before .method .ensures) ∙ sym (euclid-step _ _ (pos-of-ne-zero (c .before .before .if1 .left))))
+    let rest : Common = c .before .method .result in
+    let counted : record { divisor = rest .divisor; divisions = rest .divisions + 1 } ≡ oneMore rest =
+    ap (λ (n : ℕ). record { divisor = rest .divisor; divisions = n }) (add-one (rest .divisions)) in
+    counted
+    ∙ ap oneMore (c .before .method .ensures)
+    ∙ sym (euclid-step _ _ (pos-of-ne-zero (c .before .before .if1 .left)))
 
 pub +method-spec : {M : Type 1} → statement M
 +method-spec =
