@@ -3,9 +3,7 @@
 -- Assumes nothing.
 use Prim.Native.Nat.{ℕ, zero, suc, _+_, _-_, _%_, _<_, _≤_, _^_}
 use mathlib.Core.Path.{_≡_, refl, sym, ap, _∙_}
-use mathlib.Core.Bool.{cond}
-use mathlib.Core.Logic.{⊎-elim}
-use native.Mathlib.Nat.{mod-lt, mod-self, mod-le, mod-eq-sub-mod, eq-or-lt-of-le, zero-lt-suc, not-suc-le-zero}
+use native.Mathlib.Nat.{mod-lt, mod-self, mod-le, mod-eq-sub-mod, zero-lt-suc, not-suc-le-zero}
 use native.Mathlib.Decide.{decLe}
 use native.Mathlib.Omega.{arith}
 use borrow.Author.Tests.{lt-ltb, le-ltb}

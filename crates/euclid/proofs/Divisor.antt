@@ -1,13 +1,13 @@
 -- The laws of the greatest common divisor, Bezout's among them.
 -- Core: gcd-zero, gcd-step, gcd-is. The rest follows from these.
 -- Assumes nothing.
-use Prim.Native.Nat.{ℕ, zero, suc, _+_, _*_, _-_, _/_, _%_, _<_, _≤_, _∣_}
-use mathlib.Core.Path.{_≡_, refl, sym, ap, _∙_}
+use Prim.Native.Nat.{ℕ, _+_, _*_, _-_, _/_, _%_, _<_, _≤_, _∣_}
+use mathlib.Core.Path.{_≡_, ap}
 use native.Mathlib.Nat.{dvd-refl, dvd-zero, dvd-mod-iff, dvd-antisymm, pos-of-dvd-of-pos, div-add-mod', sub-add-cancel, mul-le-mul-left, dvd-mul-right, dvd-mul-right-of-dvd, dvd-add-iff-right, le-of-mul-le-mul-left}
 use native.Mathlib.Omega.{arith}
 use Rattle.euclid.specs.declared.Common.{Common}
 use Rattle.euclid.specs.Divisor.{IsGcd, Bezout}
-use Rattle.euclid.specs.Answer.{euclid, gcd}
+use Rattle.euclid.specs.Answer.{gcd}
 use Rattle.euclid.proofs.Euclid.{euclid-zero, euclid-step, euclid-induction}
 
 -- ---- Core laws

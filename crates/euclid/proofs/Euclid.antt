@@ -1,13 +1,12 @@
 -- Euclid's method: its two equations, its induction principle, and that it is the relation `Euclid`.
 -- All other laws of this crate rest on these, and never on the text of the definition.
 -- Assumes nothing.
-use Prim.Native.Nat.{ℕ, zero, suc, _+_, _%_, _<_, _≤_}
-use mathlib.Core.Path.{_≡_, refl, sym, ap, _∙_}
+use Prim.Native.Nat.{ℕ, zero, suc, _%_, _<_, _≤_}
+use mathlib.Core.Path.{_≡_, refl, ap, _∙_}
 use native.Mathlib.Nat.{mod-lt, zero-lt-suc, le-refl, not-suc-le-zero}
 use native.Mathlib.Omega.{arith}
-use Rattle.euclid.specs.declared.Common.{Common}
 use Rattle.euclid.specs.Divisor.{Euclid, ends, takes}
-use Rattle.euclid.specs.Answer.{oneMore, euclidWithin, euclid, gcd}
+use Rattle.euclid.specs.Answer.{oneMore, euclidWithin, euclid}
 
 -- ---- Core laws
 

@@ -2,12 +2,12 @@
 -- Core: lcm-is. The rest follows from it.
 -- Assumes nothing.
 use Prim.Native.Nat.{ℕ, zero, suc, _+_, _*_, _/_, _<_, _≤_, _∣_}
-use mathlib.Core.Path.{_≡_, refl, sym, ap, _∙_}
+use mathlib.Core.Path.{_≡_, sym, ap}
 use native.Mathlib.Nat.{dvd-zero, dvd-mul-left, dvd-mul-right, dvd-mul-right-of-dvd, mul-dvd-mul-left, dvd-antisymm, dvd-add-iff-right, dvd-of-mul-dvd-mul-left, eq-zero-of-zero-dvd, mul-div-cancel', mul-comm, mul-le-mul-right, mul-pos, pos-of-dvd-of-pos, dvd-refl, dvd-trans, one-dvd, zero-lt-suc}
 use native.Mathlib.Omega.{arith}
-use Rattle.euclid.specs.Divisor.{IsLcm, Bezout}
+use Rattle.euclid.specs.Divisor.{IsLcm}
 use Rattle.euclid.specs.Answer.{gcd, lcm}
-use Rattle.euclid.proofs.Divisor.{gcd-is, gcd-pos-left, gcd-comm, bezout}
+use Rattle.euclid.proofs.Divisor.{gcd-is, gcd-pos-left, bezout}
 
 -- ---- Core laws
 

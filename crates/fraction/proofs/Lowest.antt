@@ -1,7 +1,7 @@
 -- The laws of lowest terms.
 -- Core: lowest-parts, lowest-none, lowest-same, lowest-terms, lowest-only. The rest follows from these.
 -- Assumes nothing.
-use Prim.Native.Nat.{ℕ, zero, suc, _+_, _*_, _/_, _%_, _<_, _≤_, _∣_}
+use Prim.Native.Nat.{ℕ, _*_, _/_, _<_, _≤_, _∣_}
 use mathlib.Core.Path.{_≡_, refl, sym, ap, subst, _∙_}
 use native.Mathlib.Nat.{pos-of-dvd-of-pos, dvd-antisymm, one-dvd, dvd-mul-left, mul-dvd-mul-left, dvd-of-mul-dvd-mul-left, mul-div-cancel', mul-one}
 use native.Mathlib.Decide.{decLe}
@@ -47,7 +47,9 @@ pub lowest-same : (f : Fraction) → SameValue f (lowest f)
 lowest-same f = go (decLe 1 (f .denominator))
   where
     go : Dec (1 ≤ f .denominator) → SameValue f (lowest f)
-    go (no h) = let z : f .denominator ≡ 0 = omega arith in ap (λ (x : Fraction). f .numerator * x .denominator) (sym (lowest-none f z)) ∙ ap (λ (x : Fraction). x .numerator * f .denominator) (lowest-none f z)
+    go (no h) =
+        let e = lowest-none f (omega arith) in
+        ap (λ (x : Fraction). f .numerator * x .denominator) (sym e) ∙ ap (λ (x : Fraction). x .numerator * f .denominator) e
     go (yes h) =
         let p = parts f h in
         omega (arith, ap (λ (n : ℕ). n * lowest f .denominator) (p .numerator), ap (λ (n : ℕ). lowest f .numerator * n) (p .denominator))
@@ -72,13 +74,20 @@ lowest-terms f h =
           };
     }
 
+-- the denominator of lowest terms divides that of every fraction that is the same number
+denominator-divides : (f h : Fraction) → LowestTerms f → SameValue f h → f .denominator ∣ h .denominator
+denominator-divides f h l e =
+    coprime-divides (f .denominator) (f .numerator) (h .denominator) (l .whole) (gcd-swap (l .coprime))
+    (rw e (dvd-mul-left (f .denominator) (h .numerator)))
+
 -- two fractions in lowest terms that are one number are one fraction
 lowest-one : (f h : Fraction) → LowestTerms f → LowestTerms h → SameValue f h → f ≡ h
 lowest-one f h lf lh e =
-    let up : f .denominator ∣ h .denominator = coprime-divides (f .denominator) (f .numerator) (h .denominator) (lf .whole) (gcd-swap (lf .coprime)) (rw e (dvd-mul-left (f .denominator) (h .numerator))) in
-    let down : h .denominator ∣ f .denominator = coprime-divides (h .denominator) (h .numerator) (f .denominator) (lh .whole) (gcd-swap (lh .coprime)) (rw (← e) (dvd-mul-left (h .denominator) (f .numerator))) in
+    let up = denominator-divides f h lf e in
+    let down = denominator-divides h f lh (sym e) in
     let m : f .denominator ≡ h .denominator = dvd-antisymm up down in
-    let n : f .numerator ≡ h .numerator = mul-cancel (h .denominator) (f .numerator) (h .numerator) (lh .whole) (omega (arith, e, ap (λ (k : ℕ). h .numerator * k) m)) in
+    let n : f .numerator ≡ h .numerator =
+    mul-cancel (h .denominator) (f .numerator) (h .numerator) (lh .whole) (omega (arith, e, ap (λ (k : ℕ). h .numerator * k) m)) in
     λ i. record { numerator = n i; denominator = m i }
 
 -- two fractions that are the number of a third, which has a denominator, are one number

@@ -60,6 +60,10 @@ pub above-same :
     0 < f .denominator → 0 < f′ .denominator → 0 < h .denominator → 0 < h′ .denominator →
     SameValue f f′ → SameValue h h′ → above f h ≡ above f′ h′
 above-same f f′ h h′ pf pf′ ph ph′ ef eh =
-    ltb-same (h .numerator * f .denominator) (f .numerator * h .denominator) (h′ .numerator * f′ .denominator) (f′ .numerator * h′ .denominator)
+    ltb-same
+    (h .numerator * f .denominator)
+    (f .numerator * h .denominator)
+    (h′ .numerator * f′ .denominator)
+    (f′ .numerator * h′ .denominator)
     (cross-same f f′ h h′ pf′ ph′ ef eh)
     (cross-same f′ f h′ h pf ph (sym ef) (sym eh))

@@ -15,7 +15,9 @@ use Rattle.fraction.specs.Answer.{wholeTicks}
 -- ---- Core laws
 
 -- the answer, of a time of n parts, u to a tick
-module _ (time tick : Fraction) (n u : ℕ) (n-is : n ≡ time .numerator * tick .denominator) (u-is : u ≡ time .denominator * tick .numerator) where
+module _
+    (time tick : Fraction) (n u : ℕ)
+    (n-is : n ≡ time .numerator * tick .denominator) (u-is : u ≡ time .denominator * tick .numerator) where
   pub ticks-no-unit : u ≡ 0 → NotWhole ≡ wholeTicks time tick
   unfolding wholeTicks
   ticks-no-unit h = rw (← n-is, ← u-is) (simp (eq-eqb u 0 h))

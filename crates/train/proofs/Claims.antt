@@ -1,13 +1,13 @@
 -- The laws of claims: the tests decide them, and they come again after whole periods.
 -- Core: claims-is, both-is, claims-periodic. The rest follows from these.
 -- Assumes nothing.
-use Prim.Native.Nat.{ℕ, _+_, _*_, _-_, _%_, _<_, _≤_, _∣_}
-use mathlib.Core.Path.{_≡_, refl, sym, ap, _∙_}
-use mathlib.Core.Bool.{Bool, true, false, _&&_}
+use Prim.Native.Nat.{ℕ, _+_, _-_, _%_, _≤_, _∣_}
+use mathlib.Core.Path.{_≡_, ap, _∙_}
+use mathlib.Core.Bool.{true, false}
 use mathlib.Core.Logic.{_↔_}
 use native.Mathlib.Nat.{add-mod, mod-mod, mod-eq-zero-of-dvd, add-zero}
 use native.Mathlib.Omega.{arith}
-use lib.Dec.{leb, ltb}
+use lib.Dec.{leb}
 use borrow.Author.Tests.{le-leb, leb-true, lt-ltb, ltb-true}
 use Rattle.train.specs.declared.Train.{Train}
 use Rattle.train.specs.Claims.{Claims, Both}

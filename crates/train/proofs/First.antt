@@ -3,7 +3,7 @@
 -- Assumes nothing.
 use Prim.Native.Nat.{ℕ, zero, suc, _+_, _<_, _≤_}
 use mathlib.Core.Path.{_≡_, refl, sym, ap, fun-ext, _∙_}
-use mathlib.Core.Bool.{Bool, true, false, cond}
+use mathlib.Core.Bool.{Bool, true, false}
 use native.Mathlib.Nat.{eq-or-lt-of-le}
 use native.Mathlib.Decide.{decLe}
 use mathlib.Core.Logic.{⊎-elim}
@@ -27,7 +27,9 @@ module _ (test : ℕ → Bool) where
 
   -- the first that passes is found
   pub first-at :
-      (s n t : ℕ) → s ≤ t → t < s + n → test t ≡ true → ((u : ℕ) → s ≤ u → u < t → test u ≡ false) → firstFrom test s n ≡ At t
+      (s n t : ℕ) →
+      s ≤ t → t < s + n → test t ≡ true → ((u : ℕ) → s ≤ u → u < t → test u ≡ false) →
+      firstFrom test s n ≡ At t
   first-at s zero t h k e none = absurd (omega arith)
   first-at s (suc n) t h k e none =
       ⊎-elim
@@ -72,7 +74,9 @@ module _ (test : ℕ → Bool) where
   first-none s zero e u p l = absurd (omega arith)
   first-none s (suc n) e u p l = go (first-none (suc s) n) (test s) refl
     where
-      go : (firstFrom test (suc s) n ≡ Never → (v : ℕ) → suc s ≤ v → v < suc s + n → test v ≡ false) → (b : Bool) → test s ≡ b → test u ≡ false
+      go :
+          (firstFrom test (suc s) n ≡ Never → (v : ℕ) → suc s ≤ v → v < suc s + n → test v ≡ false) →
+          (b : Bool) → test s ≡ b → test u ≡ false
       go later true q = let here = first-here s n q in let z : _≡_ {A = ℕ} 0 1 = cc in absurd (omega arith)
       go later false q =
           ⊎-elim
@@ -98,7 +102,9 @@ module _ (test : ℕ → Bool) where
           first-never s (m + n) (λ u p l. either u p (λ h. first-none (s + m) n q u h (omega arith)) (decLe (s + m) u)) ∙ sym q
       go (At t) q =
           let f = first-found (s + m) n t q in
-          first-at s (m + n) t (omega (arith, f .from)) (omega (arith, f .below)) (f .passes) (λ u p l. either u p (λ h. f .first u h l) (decLe (s + m) u)) ∙ sym q
+          first-at s (m + n) t (omega (arith, f .from)) (omega (arith, f .below)) (f .passes)
+          (λ u p l. either u p (λ h. f .first u h l) (decLe (s + m) u))
+          ∙ sym q
 
 -- tests that agree everywhere find the same
 pub first-same : (p q : ℕ → Bool) → ((t : ℕ) → p t ≡ q t) → (s n : ℕ) → firstFrom p s n ≡ firstFrom q s n

@@ -1,9 +1,8 @@
 -- Korst's theorem (source document 001, theorem 1), and how soon two trains that collide do so.
 -- Core: korst-sufficient, korst-necessary, collide-soon. The rest follows from these.
 -- Assumes nothing.
-use Prim.Native.Nat.{ℕ, suc, _+_, _*_, _-_, _/_, _%_, _<_, _≤_, _∣_, max}
-use mathlib.Core.Path.{_≡_, refl, sym, ap, _∙_}
-use mathlib.Core.Logic.{_↔_}
+use Prim.Native.Nat.{ℕ, suc, _+_, _*_, _-_, _/_, _%_, _<_, _≤_, max}
+use mathlib.Core.Path.{_≡_, sym, ap, _∙_}
 use native.Mathlib.Nat.{mod-lt, mod-le, mod-mod-of-dvd, add-mod, mod-eq-of-lt, div-add-mod', mul-add-mod-self-left, mul-mod-right, dvd-mul-left-of-dvd, lt-of-not-le}
 use native.Mathlib.Decide.{decLe}
 use native.Mathlib.Omega.{arith}

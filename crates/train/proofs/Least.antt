@@ -1,11 +1,11 @@
 -- The laws of the earliest common tick: it is the least tick that both trains claim, and it is found exactly when they collide.
 -- Core: earliest-outside, earliest-walk, earliest-at, earliest-never. The rest follows from these.
 -- Assumes nothing.
-use Prim.Native.Nat.{ℕ, _+_, _-_, _<_, _≤_, max}
+use Prim.Native.Nat.{ℕ, _+_, _<_, _≤_, max}
 use mathlib.Core.Path.{_≡_, refl, sym, ap, _∙_}
-use mathlib.Core.Bool.{Bool, true, false, _&&_, cond}
+use mathlib.Core.Bool.{true, false}
 use mathlib.Core.Logic.{_↔_}
-use native.Mathlib.Nat.{max-eq-right, max-comm, zero-add, le-of-lt}
+use native.Mathlib.Nat.{max-eq-right, max-comm, zero-add}
 use native.Mathlib.Decide.{decLe}
 use native.Mathlib.Omega.{arith}
 use Rattle.euclid.specs.Answer.{lcm}
@@ -13,14 +13,14 @@ use Rattle.euclid.proofs.Multiple.{lcm-comm}
 use Rattle.train.specs.declared.Train.{Train}
 use Rattle.train.specs.declared.CommonTick.{CommonTick}
 use Rattle.train.specs.declared.CommonTick.the-variants.{Never, At}
-use Rattle.train.specs.Claims.{Strict, Limits, Both, Apart, Collide, Least}
+use Rattle.train.specs.Claims.{Limits, Both, Apart, Least}
 use Rattle.train.specs.Answer.{withinLimits, free, both, firstFrom, reach, earliest}
 use Rattle.train.proofs.Booleans.{not-both}
 use Rattle.train.proofs.Limits.{limits-within}
 use Rattle.train.proofs.Claims.{both-is, both-not, both-comm}
 use Rattle.train.proofs.Korst.{collide-soon}
 use Rattle.train.proofs.Test.{free-iff-apart, collides-iff}
-use Rattle.train.proofs.First.{first-at, first-never, Found, first-found, first-none, first-skip, first-same}
+use Rattle.train.proofs.First.{first-at, first-never, first-found, first-none, first-skip, first-same}
 
 -- ---- Core laws
 

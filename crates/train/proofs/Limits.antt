@@ -1,14 +1,14 @@
 -- The laws of the limits: the four ways through the test, and that the test decides them.
 -- Assumes nothing.
-use Prim.Native.Nat.{ℕ, _<_, _≤_}
-use mathlib.Core.Path.{_≡_, refl, sym, ap, _∙_}
-use mathlib.Core.Bool.{Bool, true, false, _&&_}
+use Prim.Native.Nat.{_<_, _≤_}
+use mathlib.Core.Path.{_≡_}
+use mathlib.Core.Bool.{true, false}
 use mathlib.Core.Logic.{_↔_}
 use native.Mathlib.Omega.{arith}
 use lib.Dec.{leb}
 use borrow.Author.Tests.{le-leb, lt-leb, leb-true}
 use Rattle.train.specs.declared.Train.{Train}
-use Rattle.train.specs.Claims.{Strict, Limits, maxTicks}
+use Rattle.train.specs.Claims.{Limits, maxTicks}
 use Rattle.train.specs.Answer.{withinLimits}
 use Rattle.train.proofs.Booleans.{and-true, true-and}
 
@@ -28,7 +28,9 @@ module _ (a : Train) where
   limits-period h k l =
       simp (le-leb 1 (a .duration) (omega arith), le-leb (a .duration) (a .period) k, lt-leb (a .period) maxTicks l)
 
-  pub limits-phase : (a .duration ≡ 0 → ⊥) → a .duration ≤ a .period → a .period ≤ maxTicks → leb (a .phase) maxTicks ≡ withinLimits a
+  pub limits-phase :
+      (a .duration ≡ 0 → ⊥) → a .duration ≤ a .period → a .period ≤ maxTicks →
+      leb (a .phase) maxTicks ≡ withinLimits a
   unfolding withinLimits
   limits-phase h k l =
       simp (le-leb 1 (a .duration) (omega arith), le-leb (a .duration) (a .period) k, le-leb (a .period) maxTicks l)

@@ -9,7 +9,7 @@ use borrow.Author.Needs.{needs}
 use borrow.Fn.Kinds.{In}
 use borrow.Fn.PlainCycle.{Measures, is, falls, and}
 use Rattle.euclid.specs.declared.Common.{Common}
-use Rattle.euclid.specs.Answer.{euclid, oneMore}
+use Rattle.euclid.specs.Answer.{oneMore}
 use Rattle.euclid.proofs.Euclid.{euclid-zero, euclid-step}
 use Rattle.euclid.proofs.Count.{remainders-word}
 use Rattle.euclid.proofs.method.Reads as method
