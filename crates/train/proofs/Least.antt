@@ -13,7 +13,7 @@ use Rattle.euclid.proofs.Multiple.{lcm-comm}
 use Rattle.train.specs.declared.Train.{Train}
 use Rattle.train.specs.declared.CommonTick.{CommonTick}
 use Rattle.train.specs.declared.CommonTick.the-variants.{Never, At}
-use Rattle.train.specs.Claims.{Limits, Both, Apart, Least}
+use Rattle.train.specs.Claims.{Limits, Both, Apart, Collide, Least}
 use Rattle.train.specs.Answer.{withinLimits, free, both, firstFrom, reach, earliest}
 use Rattle.train.proofs.Booleans.{not-both}
 use Rattle.train.proofs.Limits.{limits-within}
@@ -98,12 +98,17 @@ module _ (a b : Train) (la : Limits a) (lb : Limits b) where
   pub earliest-free : free a b ≡ true → Never ≡ earliest a b
   earliest-free t = sym (apart-never (free-iff-apart a b (la .strict) (lb .strict) .0 t))
 
-  pub earliest-exists : free a b ≡ false → (t : ℕ) × (earliest a b ≡ At t)
-  earliest-exists f = go (earliest a b) refl
+  collide-found : Collide a b → (t : ℕ) × (earliest a b ≡ At t)
+  collide-found w = go (earliest a b) refl
     where
       go : (r : CommonTick) → earliest a b ≡ r → (t : ℕ) × (earliest a b ≡ At t)
-      go Never e = let w = collides-iff a b (la .strict) (lb .strict) .0 f in absurd (never-apart e (w .0) (w .1))
+      go Never e = absurd (never-apart e (w .0) (w .1))
       go (At t) e = (t, e)
+
+  pub earliest-exists : ((t : ℕ) × (earliest a b ≡ At t)) ↔ (free a b ≡ false)
+  earliest-exists =
+      let is = collides-iff a b (la .strict) (lb .strict) in
+      ((λ w. is .1 (w .0, at-least (w .0) (w .1) .has)), (λ f. collide-found (is .0 f)))
 
   pub earliest-below : (t : ℕ) → earliest a b ≡ At t → t < reach a b
   earliest-below t e = let f = first-found (both a b) 0 (reach a b) t (inside a b la lb ∙ e) in omega (arith, f .below)

@@ -14,6 +14,7 @@ promises =
       limits-is = limits.limits-is;
       korst-sufficient = korst.korst-sufficient;
       korst-necessary = korst.korst-necessary;
+      korst = korst.korst;
       free-iff-apart = test.free-iff-apart;
       collides-iff = test.collides-iff;
       free-comm = test.free-comm;

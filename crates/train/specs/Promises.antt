@@ -16,6 +16,7 @@ pub record Promises : Type 0 where
   -- K2. Korst's theorem: with p1 <= p2 a pair is free of collision exactly when expression (1) holds.
   pub korst-sufficient : (a b : Train) → Strict a → Strict b → a .phase ≤ b .phase → Expression a b → Apart a b
   pub korst-necessary : (a b : Train) → Strict a → Strict b → a .phase ≤ b .phase → Apart a b → Expression a b
+  pub korst : (a b : Train) → Strict a → Strict b → a .phase ≤ b .phase → Apart a b ↔ Expression a b
   -- The test of a pair answers for all time, whichever train has the earlier phase, and in either order of the two.
   pub free-iff-apart : (a b : Train) → Strict a → Strict b → (free a b ≡ true) ↔ Apart a b
   pub collides-iff : (a b : Train) → Strict a → Strict b → (free a b ≡ false) ↔ Collide a b
@@ -26,5 +27,5 @@ pub record Promises : Type 0 where
   -- The earliest common tick is the least tick that both claim; there is one exactly when the pair collides; it is below the reach.
   pub earliest-at : (a b : Train) → Limits a → Limits b → (t : ℕ) → (earliest a b ≡ At t) ↔ Least (Both a b) t
   pub earliest-never : (a b : Train) → Limits a → Limits b → (earliest a b ≡ Never) ↔ Apart a b
-  pub earliest-exists : (a b : Train) → Limits a → Limits b → free a b ≡ false → (t : ℕ) × (earliest a b ≡ At t)
+  pub earliest-exists : (a b : Train) → Limits a → Limits b → ((t : ℕ) × (earliest a b ≡ At t)) ↔ (free a b ≡ false)
   pub earliest-below : (a b : Train) → Limits a → Limits b → (t : ℕ) → earliest a b ≡ At t → t < reach a b
