@@ -81,9 +81,17 @@ fn number(state: u128) -> u128 {
     }
 }
 
+fn at_a_limit(state: u128) -> u128 {
+    let beside = state / 8 % 3;
+    match state % 8 {
+        6 => 999_999 + beside,
+        7 => 9_999_999 + beside,
+        _ => number(state),
+    }
+}
+
 fn divisor_case(run: &mut Run) {
     let a = run.draw(number);
-    // the second number is drawn, and the state moves on only after it was answered
     let b = run.draw(number);
     run.say(greatest_common_divisor(a, b));
     run.say(division_count(a, b));
@@ -107,7 +115,7 @@ fn fraction_case(run: &mut Run) {
     run.say_if(whole_ticks((n, m), (1, m % 100_000_000 * 24)));
     let once = running_multiple(Some(start), run.draw(|s| below(s, 1_000)));
     run.say_if(once);
-    let twice = running_multiple(once, run.draw(number));
+    let twice = running_multiple(once, run.draw(at_a_limit));
     run.say_if(twice);
 }
 
@@ -129,6 +137,12 @@ fn any_train(run: &mut Run) -> Train {
     train(run.draw(number), period, duration)
 }
 
+fn limit_train(run: &mut Run) -> Train {
+    let period = run.draw(at_a_limit);
+    let duration = run.draw(at_a_limit);
+    train(run.draw(at_a_limit), period, duration)
+}
+
 fn train(phase: u128, period: u128, duration: u128) -> Train {
     Train { phase: phase as i128, period: period as i128, duration: duration as i128 }
 }
@@ -140,6 +154,11 @@ fn train_case(run: &mut Run) {
     run.say(a.within_limits() as u128);
     run.say(odd.within_limits() as u128);
     run.say_pair(odd, a);
+    let (a, b) = (limit_train(run), limit_train(run));
+    run.say(free(a, b) as u128);
+    run.say(division_count(a.period as u128, b.period as u128));
+    run.say(a.within_limits() as u128);
+    run.say(b.within_limits() as u128);
     let (a, b) = (large_train(run), large_train(run));
     run.say_pair(a, b);
 }

@@ -62,7 +62,7 @@ lowest-terms f h =
     let g : ℕ = gcd (f .numerator) (f .denominator) in
     let g-pos = gcd-pos-right (f .numerator) (f .denominator) h in
     record {
-      whole = pos-of-dvd-of-pos (subst (λ (x : ℕ). m ∣ x) (sym (p .denominator)) (dvd-mul-left m g)) h;
+      positive = pos-of-dvd-of-pos (subst (λ (x : ℕ). m ∣ x) (sym (p .denominator)) (dvd-mul-left m g)) h;
       coprime =
           record {
             left = one-dvd n;
@@ -77,7 +77,7 @@ lowest-terms f h =
 -- the denominator of lowest terms divides that of every fraction that is the same number
 denominator-divides : (f h : Fraction) → LowestTerms f → SameValue f h → f .denominator ∣ h .denominator
 denominator-divides f h l e =
-    coprime-divides (f .denominator) (f .numerator) (h .denominator) (l .whole) (gcd-swap (l .coprime))
+    coprime-divides (f .denominator) (f .numerator) (h .denominator) (l .positive) (gcd-swap (l .coprime))
     (rw e (dvd-mul-left (f .denominator) (h .numerator)))
 
 -- two fractions in lowest terms that are one number are one fraction
@@ -87,7 +87,7 @@ lowest-one f h lf lh e =
     let down = denominator-divides h f lh (sym e) in
     let m : f .denominator ≡ h .denominator = dvd-antisymm up down in
     let n : f .numerator ≡ h .numerator =
-    mul-cancel (h .denominator) (f .numerator) (h .numerator) (lh .whole) (omega (arith, e, ap (λ (k : ℕ). h .numerator * k) m)) in
+    mul-cancel (h .denominator) (f .numerator) (h .numerator) (lh .positive) (omega (arith, e, ap (λ (k : ℕ). h .numerator * k) m)) in
     λ i. record { numerator = n i; denominator = m i }
 
 -- two fractions that are the number of a third, which has a denominator, are one number
@@ -103,7 +103,7 @@ lowest-only f h p e l = lowest-one h (lowest f) l (lowest-terms f p) (same-trans
 
 -- what is in lowest terms is its own lowest terms
 pub lowest-already : (f : Fraction) → LowestTerms f → lowest f ≡ f
-lowest-already f l = sym (lowest-only f f (l .whole) refl l)
+lowest-already f l = sym (lowest-only f f (l .positive) refl l)
 
 pub lowest-twice : (f : Fraction) → lowest (lowest f) ≡ lowest f
 lowest-twice f = go (decLe 1 (f .denominator))
@@ -116,4 +116,4 @@ pub lowest-zero : (m : ℕ) → 0 < m → lowest (record { numerator = 0; denomi
 lowest-zero m h =
     sym
     (lowest-only (record { numerator = 0; denominator = m }) (record { numerator = 0; denominator = 1 }) h (omega arith)
-    (record { whole = omega arith; coprime = record { left = one-dvd 0; right = one-dvd 1; greatest = λ k p q. q } }))
+    (record { positive = omega arith; coprime = record { left = one-dvd 0; right = one-dvd 1; greatest = λ k p q. q } }))

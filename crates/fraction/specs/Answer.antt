@@ -6,7 +6,8 @@
 --     limited m                   m, as long as it is within the limit
 --     included multiple d         the multiple of the denominators so far and d
 --     commonMultiple ds           the least common multiple of a list: the paper's L
---     running ds                  the same, one number after the other, against the limit
+--     runningFrom multiple ds     the multiple of the denominators so far and those of a list, one after the other
+--     running ds                  the same from none so far: L against the limit
 use Prim.Native.Nat.{ℕ, _*_, _/_, _%_}
 use mathlib.Core.Bool.{Bool, cond}
 use mathlib.Core.List.{List, [], _∷_}
@@ -57,11 +58,11 @@ unfoldable pub commonMultiple : List ℕ → ℕ
 commonMultiple [] = 1
 commonMultiple (d ∷ ds) = lcm d (commonMultiple ds)
 
--- The denominators taken one after the other, from those that are taken already.
+-- The denominators of a list, one after the other, after those so far.
 unfoldable pub runningFrom : Multiple → List ℕ → Multiple
 runningFrom multiple [] = multiple
 runningFrom multiple (d ∷ ds) = runningFrom (included multiple d) ds
 
--- The denominators taken one after the other, from none.
+-- The denominators of a list, one after the other, from none.
 unfoldable pub running : List ℕ → Multiple
 running ds = runningFrom (Within 1) ds

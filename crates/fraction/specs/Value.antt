@@ -16,7 +16,7 @@ SameValue f h = f .numerator * h .denominator ≡ h .numerator * f .denominator
 
 -- The fraction has a denominator, and nothing but 1 divides both of its numbers.
 pub record LowestTerms (f : Fraction) : Type 0 where
-  pub whole : 0 < f .denominator
+  pub positive : 0 < f .denominator
   pub coprime : IsGcd (f .numerator) (f .denominator) 1
 
 -- A time n/m is k ticks of a/b: k · m · a = n · b.

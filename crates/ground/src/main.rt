@@ -61,6 +61,19 @@ impl Course {
         self.below(60)
     }
 
+    // A number at or beside a limit, or as above.
+    fn at_a_limit(self) -> u32 {
+        let beside = (self.state / 8 % 3) as u32;
+        let kind = self.state % 8;
+        if kind == 6 {
+            return 999_999 + beside;
+        }
+        if kind == 7 {
+            return 9_999_999 + beside;
+        }
+        self.number()
+    }
+
     fn answer(self, value: u64) -> Course {
         if self.shown {
             io::print_decimal(1, value);
@@ -149,7 +162,7 @@ fn fraction_case(c: Course) -> Course {
     let c = c.next();
     let multiple = multiple.including(c.below(1_000));
     let c = multiple_answer(c, multiple).next();
-    multiple_answer(c, multiple.including(c.number())).next()
+    multiple_answer(c, multiple.including(c.at_a_limit())).next()
 }
 
 // A train of small times that is within the limits.
@@ -218,6 +231,30 @@ fn small_case(c: Course) -> Course {
     pair_answer(c, odd, a)
 }
 
+// A train at or beside the limits, or outside them.
+fn limit_train(c: Course) -> Train {
+    let period = c.at_a_limit();
+    let c = c.next();
+    let duration = c.at_a_limit();
+    let c = c.next();
+    Train {
+        phase: c.at_a_limit(),
+        period: period,
+        duration: duration,
+    }
+}
+
+// Two such trains: the limits and the test of the pair, without a search that might be long.
+fn limit_case(c: Course) -> Course {
+    let a = limit_train(c);
+    let c = c.next().next().next();
+    let b = limit_train(c);
+    let c = c.next().next().next();
+    let pair = train::compare(a, b);
+    let c = c.flag(pair.free).answer(pair.divisions as u64);
+    c.flag(a.within_limits()).flag(b.within_limits())
+}
+
 fn large_case(c: Course) -> Course {
     let a = large_train(c);
     let c = c.next().next().next();
@@ -226,7 +263,7 @@ fn large_case(c: Course) -> Course {
 }
 
 fn case(c: Course) -> Course {
-    large_case(small_case(fraction_case(euclid_case(c)))).line()
+    large_case(limit_case(small_case(fraction_case(euclid_case(c))))).line()
 }
 
 fn run(begin: Course, cases: u64) -> Course {
