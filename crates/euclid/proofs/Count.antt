@@ -1,5 +1,5 @@
 -- The laws of the division count, and Lamé's bound on it.
--- Core: divisions-larger, count-step, lame. The rest follows from these.
+-- Core: remainders-zero, remainders-step, divisions-larger, divisions-smaller, lame. The rest follows from these.
 -- Assumes nothing.
 use Prim.Native.Nat.{ℕ, zero, suc, _+_, _-_, _%_, _<_, _≤_, _^_}
 use mathlib.Core.Path.{_≡_, refl, sym, ap, _∙_}
@@ -67,7 +67,7 @@ lame (suc n) a (suc b) h d =
     let i = lame n (suc b) (a % suc b) (mod-lt a p) (omega (arith, remainders-step a (suc b) p)) in
     (omega (arith, remainder-fits a (suc b) (omega arith)), i .0)
 
--- so numbers below the n-th high number take at most n + 1, and the smaller one first takes one more
+-- so numbers below the n-th high number take at most n, larger number first ..
 few : (n a b : ℕ) → b < a → a < fibonacci n .high → euclid a b .divisions ≤ n
 few n a b l h = go (decLe (euclid a b .divisions) n)
   where
@@ -75,6 +75,7 @@ few n a b l h = go (decLe (euclid a b .divisions) n)
     go (yes k) = k
     go (no f) = omega (arith, lame n a b l (omega arith))
 
+-- .. and at most one more in either order
 pub remainders-few : (n a b : ℕ) → b < fibonacci n .high → euclid a b .divisions ≤ suc n
 remainders-few n a zero h = omega (arith, remainders-zero a)
 remainders-few n a (suc b) h =
@@ -107,7 +108,7 @@ divisions-only a b g n h run =
     let e = euclid-only run in
     (sym (ap (λ (c : Common). c .divisor) e), sym (divisions-larger a b h ∙ ap (λ (c : Common). c .divisions) e))
 
--- larger number first, numbers below the n-th high number take at most n
+-- the count of numbers below the n-th high number is at most n
 divisions-few : (n a b : ℕ) → 0 < n → a < fibonacci n .high → b < fibonacci n .high → divisions a b ≤ n
 divisions-few n zero b p ha hb = omega (arith, divisions-comm 0 b, divisions-zero b)
 divisions-few n (suc a) b p ha hb = go (decLe b (suc a)) (decLe (suc a) b)
