@@ -3,12 +3,12 @@
 -- Assumes nothing.
 use Prim.Native.Nat.{ℕ, _*_, _/_, _<_, _≤_, _∣_}
 use mathlib.Core.Path.{_≡_, refl, sym, ap, subst, _∙_}
-use native.Mathlib.Nat.{pos-of-dvd-of-pos, dvd-antisymm, one-dvd, dvd-mul-left, mul-dvd-mul-left, dvd-of-mul-dvd-mul-left, mul-div-cancel', mul-one}
+use native.Mathlib.Nat.{pos-of-dvd-of-pos, dvd-antisymm, one-dvd, dvd-mul-left, mul-dvd-mul-left, dvd-of-mul-dvd-mul-left, mul-div-cancel', mul-one, eq-of-mul-eq-mul-left}
 use native.Mathlib.Decide.{decLe}
 use native.Mathlib.Omega.{arith}
 use borrow.Author.Tests.{eq-eqb, ne-eqb}
 use Rattle.euclid.specs.Answer.{gcd}
-use Rattle.euclid.proofs.Divisor.{gcd-is, gcd-swap, gcd-pos-right, coprime-divides, mul-cancel}
+use Rattle.euclid.proofs.Divisor.{gcd-is, gcd-swap, gcd-pos-right, coprime-divides}
 use Rattle.fraction.specs.declared.Fraction.{Fraction}
 use Rattle.fraction.specs.Value.{SameValue, LowestTerms}
 use Rattle.fraction.specs.Answer.{lowest}
@@ -87,13 +87,13 @@ lowest-one f h lf lh e =
     let down = denominator-divides h f lh (sym e) in
     let m : f .denominator ≡ h .denominator = dvd-antisymm up down in
     let n : f .numerator ≡ h .numerator =
-    mul-cancel (h .denominator) (f .numerator) (h .numerator) (lh .positive) (omega (arith, e, ap (λ (k : ℕ). h .numerator * k) m)) in
+    eq-of-mul-eq-mul-left (h .denominator) (lh .positive) (f .numerator) (h .numerator) (omega (arith, e, ap (λ (k : ℕ). h .numerator * k) m)) in
     λ i. record { numerator = n i; denominator = m i }
 
 -- two fractions that are the number of a third, which has a denominator, are one number
 pub same-trans : (f h k : Fraction) → 0 < f .denominator → SameValue f h → SameValue f k → SameValue h k
 same-trans f h k p a b =
-    mul-cancel (f .denominator) (h .numerator * k .denominator) (k .numerator * h .denominator) p
+    eq-of-mul-eq-mul-left (f .denominator) p (h .numerator * k .denominator) (k .numerator * h .denominator)
     (omega (arith, ap (λ (n : ℕ). n * k .denominator) a, ap (λ (n : ℕ). n * h .denominator) b))
 
 pub lowest-only : (f h : Fraction) → 0 < f .denominator → SameValue f h → LowestTerms h → h ≡ lowest f

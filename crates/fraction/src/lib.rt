@@ -40,7 +40,7 @@ fn part(n: u32, divisor: u64) -> u32
 }
 
 // The greatest common divisor of two numbers of 32 bits.
-fn divisor(a: u32, b: u32) -> u64
+fn divisor_of(a: u32, b: u32) -> u64
     ensures { λ r. ⌜ r ≡ gcd a b ⌝ }
 {
     let common = euclid::common_divisor(a as u64, b as u64);
@@ -55,7 +55,7 @@ impl Fraction {
         if self.denominator == 0 {
             return self;
         }
-        let divisor = divisor(self.numerator, self.denominator);
+        let divisor = divisor_of(self.numerator, self.denominator);
         Fraction {
             numerator: part(self.numerator, divisor),
             denominator: part(self.denominator, divisor),
@@ -106,7 +106,7 @@ impl Multiple {
 fn least(a: u32, b: u32) -> Multiple
     ensures { λ r. ⌜ r ≡ limited (lcm a b) ⌝ }
 {
-    let multiple = product(part(a, divisor(a, b)), b);
+    let multiple = product(part(a, divisor_of(a, b)), b);
     if multiple <= Multiple::LIMIT as u64 {
         Multiple::Within(multiple as u32)
     } else {

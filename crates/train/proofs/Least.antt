@@ -15,9 +15,8 @@ use Rattle.train.specs.declared.CommonTick.{CommonTick}
 use Rattle.train.specs.declared.CommonTick.the-variants.{Never, At}
 use Rattle.train.specs.Claims.{Limits, Both, Apart, Collide, Least}
 use Rattle.train.specs.Answer.{withinLimits, free, both, firstFrom, reach, earliest}
-use Rattle.train.proofs.Booleans.{not-both}
 use Rattle.train.proofs.Limits.{limits-within}
-use Rattle.train.proofs.Claims.{both-is, both-not, both-comm}
+use Rattle.train.proofs.Claims.{both-is, both-not, not-both, both-comm}
 use Rattle.train.proofs.Korst.{collide-soon}
 use Rattle.train.proofs.Test.{free-iff-apart, collides-iff}
 use Rattle.train.proofs.First.{first-at, first-never, first-found, first-none, first-skip, first-same}
@@ -64,7 +63,7 @@ module _ (a b : Train) (la : Limits a) (lb : Limits b) where
   at-least : (t : ℕ) → earliest a b ≡ At t → Least (Both a b) t
   at-least t e =
       let f = first-found (both a b) 0 (reach a b) t (inside a b la lb ∙ e) in
-      record { has = both-is a b t .0 (f .passes); least = λ s lt c. not-both (both-is a b s .1 c) (f .first s (omega arith) lt) }
+      record { has = both-is a b t .0 (f .passes); least = λ s lt c. not-both a b s (f .first s (omega arith) lt) c }
 
   -- the least common tick is no later than one that comes soon
   least-at : (t : ℕ) → Least (Both a b) t → earliest a b ≡ At t
@@ -85,7 +84,8 @@ module _ (a b : Train) (la : Limits a) (lb : Limits b) where
   never-apart : earliest a b ≡ Never → Apart a b
   never-apart e t c =
       let w = collide-soon a b (la .strict) (lb .strict) (t, c) in
-      not-both (both-is a b (w .0) .1 (w .1)) (first-none (both a b) 0 (reach a b) (inside a b la lb ∙ e) (w .0) (omega arith) (omega (arith, w .2)))
+      let none = first-none (both a b) 0 (reach a b) (inside a b la lb ∙ e) in
+      not-both a b (w .0) (none (w .0) (omega arith) (omega (arith, w .2))) (w .1)
 
   apart-never : Apart a b → earliest a b ≡ Never
   apart-never apart = sym (inside a b la lb) ∙ first-never (both a b) 0 (reach a b) (λ u p l. both-not a b u (apart u))

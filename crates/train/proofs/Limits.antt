@@ -1,8 +1,8 @@
 -- The laws of the limits: the four ways through the test, and that the test decides them.
 -- Assumes nothing.
 use Prim.Native.Nat.{_<_, _≤_}
-use mathlib.Core.Path.{_≡_}
-use mathlib.Core.Bool.{true, false}
+use mathlib.Core.Path.{_≡_, sym, _∙_}
+use mathlib.Core.Bool.{true, false, and-eq-true-iff}
 use mathlib.Core.Logic.{_↔_}
 use native.Mathlib.Omega.{arith}
 use lib.Dec.{leb}
@@ -10,7 +10,6 @@ use borrow.Author.Tests.{le-leb, lt-leb, leb-true}
 use Rattle.train.specs.declared.Train.{Train}
 use Rattle.train.specs.Claims.{Limits, maxTicks}
 use Rattle.train.specs.Answer.{withinLimits}
-use Rattle.train.proofs.Booleans.{and-true, true-and}
 
 -- ---- Core laws
 
@@ -38,9 +37,9 @@ module _ (a : Train) where
   pub within-limits : withinLimits a ≡ true → Limits a
   unfolding withinLimits
   within-limits e =
-      let some = and-true (leb 1 (a .duration)) _ e in
-      let fits = and-true (leb (a .duration) (a .period)) _ (some .1) in
-      let ends = and-true (leb (a .period) maxTicks) _ (fits .1) in
+      let some = and-eq-true-iff (leb 1 (a .duration)) _ .0 e in
+      let fits = and-eq-true-iff (leb (a .duration) (a .period)) _ .0 (some .1) in
+      let ends = and-eq-true-iff (leb (a .period) maxTicks) _ .0 (fits .1) in
       record {
         strict = record { some = leb-true 1 (a .duration) (some .0); fits = leb-true (a .duration) (a .period) (fits .0) };
         period = leb-true (a .period) maxTicks (ends .0);
@@ -48,11 +47,7 @@ module _ (a : Train) where
       }
 
   pub limits-within : Limits a → withinLimits a ≡ true
-  unfolding withinLimits
-  limits-within l =
-      true-and (le-leb 1 (a .duration) (l .strict .some))
-      (true-and (le-leb (a .duration) (a .period) (l .strict .fits))
-      (true-and (le-leb (a .period) maxTicks (l .period)) (le-leb (a .phase) maxTicks (l .phase))))
+  limits-within l = sym (limits-phase (λ z. omega (arith, l .strict .some)) (l .strict .fits) (l .period)) ∙ le-leb (a .phase) maxTicks (l .phase)
 
   pub limits-is : (withinLimits a ≡ true) ↔ Limits a
   limits-is = (within-limits, limits-within)

@@ -3,8 +3,9 @@
 -- Assumes nothing.
 use Prim.Native.Nat.{ℕ, _+_, _-_, _%_, _<_, _≤_}
 use mathlib.Core.Path.{_≡_, sym, ap, subst, _∙_}
-use mathlib.Core.Bool.{Bool, true, false}
+use mathlib.Core.Bool.{Bool, true, false, and-eq-true-iff}
 use mathlib.Core.Logic.{_↔_}
+use mathlib.Mathlib.Data.Bool.Basic.{eq-false-eq-not-eq-true, partialOrderLaws}
 use native.Mathlib.Nat.{sub-self, zero-mod}
 use native.Mathlib.Decide.{decLe}
 use native.Mathlib.Omega.{arith}
@@ -16,7 +17,6 @@ use Rattle.euclid.proofs.Divisor.{gcd-comm, gcd-pos-left}
 use Rattle.train.specs.declared.Train.{Train}
 use Rattle.train.specs.Claims.{Strict, Claims, Apart, Collide, Expression}
 use Rattle.train.specs.Answer.{expression, free, pair}
-use Rattle.train.proofs.Booleans.{not-both, not-true, both-true, and-true, true-and}
 use Rattle.train.proofs.Korst.{korst-sufficient, korst-necessary, korst-instant}
 
 -- ---- Core laws
@@ -41,11 +41,11 @@ module _ (g difference first second : ℕ) where
     where
       there : expression g difference first second ≡ true → (first ≤ difference % g) × (difference % g + second ≤ g)
       there e =
-          let parts = and-true (leb first (difference % g)) _ (and-true (ltb 0 g) _ e .1) in
+          let parts = and-eq-true-iff (leb first (difference % g)) _ .0 (and-eq-true-iff (ltb 0 g) _ .0 e .1) in
           (leb-true first (difference % g) (parts .0), leb-true (difference % g + second) g (parts .1))
 
       back : (first ≤ difference % g) × (difference % g + second ≤ g) → expression g difference first second ≡ true
-      back k = true-and (lt-ltb 0 g h) (true-and (le-leb first (difference % g) (k .0)) (le-leb (difference % g + second) g (k .1)))
+      back k = sym (expression-last (λ z. omega arith) (k .0)) ∙ le-leb (difference % g + second) g (k .1)
 
 module _ (a b : Train) where
   pub free-ordered : a .phase ≤ b .phase → expression (gcd (a .period) (b .period)) (b .phase - a .phase) (a .duration) (b .duration) ≡ free a b
@@ -107,19 +107,19 @@ pub collides-iff : (a b : Train) → Strict a → Strict b → (free a b ≡ fal
 collides-iff a b sa sb = (there (decLe (a .phase) (b .phase)), back)
   where
     there : Dec (a .phase ≤ b .phase) → free a b ≡ false → Collide a b
-    there (yes h) f = korst-instant a b sa sb h (λ k. not-both (free-expression a b sa h .1 k) f)
+    there (yes h) f = korst-instant a b sa sb h (λ k. eq-false-eq-not-eq-true (free a b) .1 f (free-expression a b sa h .1 k))
     there (no h) f =
         let l : b .phase ≤ a .phase = omega arith in
         let e = free-turned a b (omega arith) in
-        let w = korst-instant b a sb sa l (λ k. not-both (e ∙ free-expression b a sb l .1 k) f) in
+        let w = korst-instant b a sb sa l (λ k. eq-false-eq-not-eq-true (free a b) .1 f (e ∙ free-expression b a sb l .1 k)) in
         (w .0, (w .1 .1, w .1 .0))
 
     back : Collide a b → free a b ≡ false
-    back w = not-true (free a b) (λ t. free-iff-apart a b sa sb .0 t (w .0) (w .1))
+    back w = eq-false-eq-not-eq-true (free a b) .0 (λ t. free-iff-apart a b sa sb .0 t (w .0) (w .1))
 
 pub free-comm : (a b : Train) → Strict a → Strict b → free a b ≡ free b a
 free-comm a b sa sb =
-    both-true (free a b) (free b a)
+    partialOrderLaws .le-antisymm (free a b) (free b a)
     (λ t. free-iff-apart b a sb sa .1 (apart-swap a b (free-iff-apart a b sa sb .0 t)))
     (λ t. free-iff-apart a b sa sb .1 (apart-swap b a (free-iff-apart b a sb sa .0 t)))
 
@@ -145,4 +145,4 @@ free-durations a b sa sb t = go (decLe (a .phase) (b .phase))
 
 pub coprime-periods-collide : (a b : Train) → Strict a → Strict b → gcd (a .period) (b .period) ≡ 1 → free a b ≡ false
 coprime-periods-collide a b sa sb e =
-    not-true (free a b) (λ t. omega (arith, free-durations a b sa sb t, sa .some, sb .some))
+    eq-false-eq-not-eq-true (free a b) .0 (λ t. omega (arith, free-durations a b sa sb t, sa .some, sb .some))

@@ -7,8 +7,8 @@ use borrow.Author.Needs.{needs}
 use Rattle.fraction.proofs.least.Statement.{statement}
 use Rattle.fraction.proofs.least.Tie as tie
 
-divisor-requires : tie.Need-divisor-requires
-divisor-requires c κs = search needs
+divisor-of-requires : tie.Need-divisor-of-requires
+divisor-of-requires c κs = search needs
 
 part-requires : tie.Need-part-requires
 part-requires c κs = search needs
@@ -24,7 +24,7 @@ cast-t8 c = search needs
 
 -- what the code has multiplied is the least common multiple
 multiple : (c : tie.After-product) → c .product .result ≡ lcm (c .before .before .before .args .a) (c .before .before .before .args .b)
-multiple c = least-is _ _ _ _ _ (c .before .before .divisor .ensures) (c .before .part .ensures) (c .product .ensures)
+multiple c = least-is _ _ _ _ _ (c .before .before .divisor-of .ensures) (c .before .part .ensures) (c .product .ensures)
 
 returns : tie.Need-returns
 returns c = within-limited _ _ (c .if1 .taken) (multiple (c .before))
@@ -35,4 +35,4 @@ returns-2 c = above-limited _ _ (c .if1 .left) (multiple (c .before))
 pub least-spec : {M : Type 1} → statement M
 least-spec =
     tie.close
-    (tie.spec divisor-requires part-requires product-requires cast-if1 cast-t8 returns returns-2)
+    (tie.spec divisor-of-requires part-requires product-requires cast-if1 cast-t8 returns returns-2)
