@@ -29,7 +29,7 @@ fn product(a: u32, b: u32) -> u64
     (a as u64) * (b as u64)
 }
 
-// A number of 32 bits divided by a larger one; by 0 it is 0.
+// A number of 32 bits divided by one of 64; by 0 it is 0, as the library's quotient is.
 fn part(n: u32, divisor: u64) -> u32
     ensures { λ r. ⌜ r ≡ n / divisor ⌝ }
 {
