@@ -11,9 +11,14 @@ pub struct Train {
 }
 
 impl Train {
+    /// 1 <= duration <= period.
+    fn is_strict(self) -> bool {
+        (1..=self.period).contains(&self.duration)
+    }
+
     pub fn within_limits(self) -> bool {
         let most = 10_000_000;
-        (1..=self.period).contains(&self.duration) && self.period <= most && self.phase <= most
+        self.is_strict() && self.period <= most && self.phase <= most
     }
 
     fn claims(self, tick: i128) -> bool {
@@ -25,8 +30,12 @@ fn common_period(a: Train, b: Train) -> i128 {
     greatest_common_divisor(a.period as u128, b.period as u128) as i128
 }
 
-/// Whether expression (1) holds, on whatever numbers. Two periods of 0 are never free.
+/// Whether no tick is ever claimed by both: looked for, and not by expression (1). On values that are no trains there is
+/// nothing to look for, and the answer is what expression (1) says of them; two periods of 0 are never free.
 pub fn free(a: Train, b: Train) -> bool {
+    if a.is_strict() && b.is_strict() {
+        return first_meeting(a, b).is_none();
+    }
     let g = common_period(a, b);
     if g == 0 {
         return false;
@@ -43,12 +52,17 @@ pub fn earliest(a: Train, b: Train) -> Option<i128> {
     }
     let hyperperiod = a.period / common_period(a, b) * b.period;
     let end = a.phase.max(b.phase) + hyperperiod;
-    let by_range = [stroke_in_run(a, b), stroke_in_run(b, a)].into_iter().flatten().min();
+    let by_range = first_meeting(a, b);
     if end <= 20_000 {
         let by_walking = (0..end).find(|&t| a.claims(t) && b.claims(t));
         assert_eq!(by_walking, by_range, "the second program disagrees with itself");
     }
     by_range
+}
+
+/// The first tick that both claim: there one of the two starts while the other runs.
+fn first_meeting(a: Train, b: Train) -> Option<i128> {
+    [stroke_in_run(a, b), stroke_in_run(b, a)].into_iter().flatten().min()
 }
 
 /// The first stroke of `a` that falls in a run of `b`.

@@ -16,7 +16,8 @@ pub record Promises : Type 0 where
   pub lowest-only : (f h : Fraction) → 0 < f .denominator → SameValue f h → LowestTerms h → h ≡ lowest f
   pub lowest-zero : (m : ℕ) → 0 < m → lowest (record { numerator = 0; denominator = m }) ≡ record { numerator = 0; denominator = 1 }
   pub lowest-twice : (f : Fraction) → lowest (lowest f) ≡ lowest f
-  -- F2. L is the least common multiple of the denominators, and taking them one after the other finds it, or that it is above the limit.
+  -- F2. L is the least common multiple of the denominators, and taking them one after the other finds it, or that it is above the limit,
+  -- where no denominator is 0, which is to say that L is not.
   pub multiple-is : (ds : List ℕ) → IsCommonMultiple ds (commonMultiple ds)
   pub multiple-only : (ds : List ℕ) (l : ℕ) → IsCommonMultiple ds l → l ≡ commonMultiple ds
   pub running-is : (ds : List ℕ) → 0 < commonMultiple ds → running ds ≡ limited (commonMultiple ds)

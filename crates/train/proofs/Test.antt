@@ -1,5 +1,5 @@
 -- The laws of Korst's test of a pair: it decides, whichever train has the earlier phase.
--- Core: expression-is, free-ordered, free-later, free-iff-apart, collides-iff. The rest follows from these.
+-- Core: expression-is, free-ordered, free-later, compared, free-iff-apart. The rest follows from these.
 -- Assumes nothing.
 use Prim.Native.Nat.{ℕ, _+_, _-_, _%_, _<_, _≤_}
 use mathlib.Core.Path.{_≡_, sym, ap, subst, _∙_}
