@@ -1,0 +1,2 @@
+-- What judge promises.
+pub mod Paper
