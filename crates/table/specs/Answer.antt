@@ -1,0 +1,121 @@
+-- The functions that the contracts cite. Promises says what they have to do with the words of Row and Given.
+--     test b r                one refusal: r where the test says so
+--     orElse o p              the first of two outcomes that is a refusal
+--     entryCheck i e          refusals 2, 3, 4 of the train at position i
+--     fineCheck es i e        refusal 5 of the train at position i
+--     longCheck tick i e      refusal 6 of the train at position i
+--     firstRefusal check i es    the first refusal of some trains, the first of which is at position i
+--     checked row             refusals 1 to 4, as `check` answers them
+--     refusal row             refusals 1 to 6
+--     reading row             the table of a row, as `read` answers it
+use Prim.Native.Nat.{ℕ, suc, _-_, _%_}
+use mathlib.Core.Bool.{Bool, true, false, cond, not}
+use mathlib.Core.List.{List, [], _∷_, _++_, map}
+use lib.Dec.{leb, ltb, eqb}
+use lib.ListN.{length, take, replicate}
+use Rattle.refusal.specs.declared.Refusal.{Refusal}
+use Rattle.refusal.specs.declared.Refusal.the-variants.{TrainCount, ZeroDenominator, ZeroTime, DurationAbovePeriod, TickTooFine, TimeTooLong}
+use Rattle.fraction.specs.declared.Fraction.{Fraction}
+use Rattle.fraction.specs.declared.Ticks.{Ticks}
+use Rattle.fraction.specs.declared.Ticks.the-variants.{NotWhole, Whole}
+use Rattle.fraction.specs.declared.Multiple.{Multiple}
+use Rattle.fraction.specs.declared.Multiple.the-variants as multiples
+use Rattle.fraction.specs.Answer.{wholeTicks, above, running}
+use Rattle.train.specs.declared.Train.{Train}
+use Rattle.train.specs.Claims.{maxTicks}
+use Rattle.table.specs.declared.Entry.{Entry}
+use Rattle.table.specs.declared.Outcome.{Outcome}
+use Rattle.table.specs.declared.Outcome.the-variants.{Passed, Refused}
+use Rattle.table.specs.declared.Table.{Table}
+use Rattle.table.specs.declared.Reading.{Reading}
+use Rattle.table.specs.Row.{capacity, numbers, longestRow, entries, denominators, tick, trainOf, trains}
+
+-- One refusal, where its test says so.
+abbrev pub test : Bool → Refusal → Outcome
+test true r = Refused r
+test false r = Passed
+
+-- One check, and where it passes the next.
+abbrev pub orElse : Outcome → Outcome → Outcome
+orElse Passed next = next
+orElse (Refused r) next = Refused r
+
+-- The trains one after the other, the first of them at position i.
+unfoldable pub firstRefusal : (ℕ → Entry → Outcome) → ℕ → List Entry → Outcome
+firstRefusal check i [] = Passed
+firstRefusal check i (e ∷ es) = orElse (check i e) (firstRefusal check (suc i) es)
+
+-- Refusals 2, 3 and 4 of one train.
+unfoldable pub entryCheck : ℕ → Entry → Outcome
+entryCheck i e =
+    orElse (test (eqb (e .phase .denominator) 0) (ZeroDenominator i))
+    (orElse (test (eqb (e .period .denominator) 0) (ZeroDenominator i))
+    (orElse (test (eqb (e .duration .denominator) 0) (ZeroDenominator i))
+    (orElse (test (eqb (e .period .numerator) 0) (ZeroTime i))
+    (orElse (test (eqb (e .duration .numerator) 0) (ZeroTime i))
+    (test (above (e .duration) (e .period)) (DurationAbovePeriod i))))))
+
+-- Refusal 1, then train by train 2, 3 and 4.
+unfoldable pub checked : List ℕ → Outcome
+checked row =
+    orElse (test (not (eqb (length row % numbers) 0)) TrainCount)
+    (orElse (test (ltb longestRow (length row)) TrainCount)
+    (firstRefusal entryCheck 0 (entries row)))
+
+-- A multiple that is above the limit.
+abbrev pub isAbove : Multiple → Bool
+isAbove multiples.Above = true
+isAbove (multiples.Within m) = false
+
+-- Refusal 5 at the train at position i: the multiple of the denominators up to and including its own is above the limit.
+abbrev pub fineCheck : List Entry → ℕ → Entry → Outcome
+fineCheck es i e = test (isAbove (running (denominators (take (suc i) es)))) (TickTooFine i)
+
+-- Refusal 5, at the first train at which the running multiple passes the limit.
+abbrev pub fine : List Entry → Outcome
+fine es = firstRefusal (fineCheck es) 0 es
+
+-- A time that is not a number of ticks within the limit.
+abbrev pub tooMany : Ticks → Bool
+tooMany NotWhole = true
+tooMany (Whole k) = ltb maxTicks k
+
+-- Refusal 6 of one train.
+unfoldable pub longCheck : Fraction → ℕ → Entry → Outcome
+longCheck tick i e =
+    orElse (test (tooMany (wholeTicks (e .phase) tick)) (TimeTooLong i))
+    (orElse (test (tooMany (wholeTicks (e .period) tick)) (TimeTooLong i))
+    (test (tooMany (wholeTicks (e .duration) tick)) (TimeTooLong i)))
+
+-- Refusal 6, at the first train with a time above the limit.
+abbrev pub short : Fraction → List Entry → Outcome
+short tick es = firstRefusal (longCheck tick) 0 es
+
+-- 1; then train by train 2, 3, 4; then 5 over the table; then 6.
+unfoldable pub refusal : List ℕ → Outcome
+refusal row = orElse (checked row) (orElse (fine (entries row)) (short (tick (entries row)) (entries row)))
+
+-- What stands in the array where there is no train.
+abbrev pub noTrain : Train
+noTrain = record { phase = 0; period = 0; duration = 0 }
+
+-- The trains, and zeros to the end of the array.
+abbrev pub filled : List Train → List Train
+filled ts = ts ++ replicate (capacity - length ts) noTrain
+
+-- The table of some trains as fractions.
+abbrev pub tableOf : Fraction → List Entry → Table
+tableOf tick es = record { tick = tick; count = length es; trains = filled (map (trainOf tick) es) }
+
+-- After a refusal: a table without a train.
+abbrev pub refused : Refusal → Reading
+refused r = record { outcome = Refused r; table = tableOf (record { numerator = 1; denominator = 1 }) [] }
+
+-- A table, or the refusal that there is.
+abbrev pub readAfter : Outcome → Table → Reading
+readAfter Passed table = record { outcome = Passed; table = table }
+readAfter (Refused r) table = refused r
+
+-- What `read` answers.
+unfoldable pub reading : List ℕ → Reading
+reading row = readAfter (refusal row) (tableOf (tick (entries row)) (entries row))

@@ -1,0 +1,7 @@
+-- What table promises. Read Row (a row, its tick and its trains), Given (when each refusal is given), Answer (the functions),
+-- then Promises (what is proved of them).
+pub mod Row
+pub mod Given
+pub mod Answer
+pub mod Promises
+pub mod Inside

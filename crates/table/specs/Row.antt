@@ -1,0 +1,91 @@
+-- What stands in a row, in the words of the paper's "Fractions and the tick".
+--     capacity                the most trains of a table
+--     numbers                 the numbers of a train in a row
+--     longestRow              the numbers of the longest row
+--     timeAt row at           the fraction whose numerator stands at an index
+--     firstEntry row          the phase, period and duration of the train at the head of a row
+--     entries row             the trains of a row as fractions, in their order
+--     noEntry                 what stands for an entry where there is none
+--     denominators es         the denominators of all times after reduction
+--     multiple es             the paper's L
+--     tick es                 the common tick, 1/L ms
+--     ticksOf tick time       how many ticks a time is
+--     trainOf tick e          a train in ticks
+--     trains row              the trains of a row in ticks of its own tick
+use Prim.Native.Nat.{ℕ, zero, suc, _+_, _*_, _/_}
+use mathlib.Core.List.{List, [], _∷_, _++_, map}
+use lib.ListN.{length, getD, drop}
+use Rattle.fraction.specs.declared.Fraction.{Fraction}
+use Rattle.fraction.specs.declared.Ticks.{Ticks}
+use Rattle.fraction.specs.declared.Ticks.the-variants.{NotWhole, Whole}
+use Rattle.fraction.specs.Answer.{lowest, wholeTicks, commonMultiple}
+use Rattle.train.specs.declared.Train.{Train}
+use Rattle.table.specs.declared.Entry.{Entry}
+
+-- At most 64 trains.
+abbrev pub capacity : ℕ
+capacity = 64
+
+-- Six numbers to a train.
+abbrev pub numbers : ℕ
+numbers = 6
+
+-- 384 numbers, for 64 trains.
+abbrev pub longestRow : ℕ
+longestRow = capacity * numbers
+
+-- Numerator, then denominator.
+abbrev pub timeAt : List ℕ → ℕ → Fraction
+timeAt row at = record { numerator = getD row at 0; denominator = getD row (at + 1) 0 }
+
+-- Phase, period and duration.
+abbrev pub entryAt : List ℕ → ℕ → Entry
+entryAt row at = record { phase = timeAt row at; period = timeAt row (at + 2); duration = timeAt row (at + 4) }
+
+-- The first trains of a row, so many of them.
+unfoldable pub entriesOf : ℕ → List ℕ → List Entry
+entriesOf zero row = []
+entriesOf (suc n) row = entryAt row 0 ∷ entriesOf n (drop numbers row)
+
+-- All whole trains of a row.
+unfoldable pub entries : List ℕ → List Entry
+entries row = entriesOf (length row / numbers) row
+
+-- Where there is no entry: three times without a denominator.
+abbrev pub noEntry : Entry
+noEntry = record { phase = timeAt [] 0; period = timeAt [] 0; duration = timeAt [] 0 }
+
+-- The denominators of one train after reduction.
+abbrev pub denominatorsOf : Entry → List ℕ
+denominatorsOf e = lowest (e .phase) .denominator ∷ lowest (e .period) .denominator ∷ lowest (e .duration) .denominator ∷ []
+
+-- The denominators of all trains after reduction.
+unfoldable pub denominators : List Entry → List ℕ
+denominators [] = []
+denominators (e ∷ es) = denominatorsOf e ++ denominators es
+
+-- L is the least common multiple of all denominators after reduction; for an empty table L is 1.
+abbrev pub multiple : List Entry → ℕ
+multiple es = commonMultiple (denominators es)
+
+-- The tick is 1/L ms.
+abbrev pub tick : List Entry → Fraction
+tick es = record { numerator = 1; denominator = multiple es }
+
+-- The number of a whole number of ticks.
+abbrev pub whole : Ticks → ℕ
+whole NotWhole = 0
+whole (Whole k) = k
+
+-- A time in ticks. (In a table that passes every time is a whole number of them: `trains-exact`.)
+abbrev pub ticksOf : (tick time : Fraction) → ℕ
+ticksOf tick time = whole (wholeTicks time tick)
+
+-- A train in ticks.
+abbrev pub trainOf : Fraction → Entry → Train
+trainOf tick e =
+    record { phase = ticksOf tick (e .phase); period = ticksOf tick (e .period); duration = ticksOf tick (e .duration) }
+
+-- The trains of a row in ticks.
+unfoldable pub trains : List ℕ → List Train
+trains row = map (trainOf (tick (entries row))) (entries row)
