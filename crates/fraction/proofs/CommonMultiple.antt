@@ -3,7 +3,7 @@
 -- Assumes nothing.
 use Prim.Native.Nat.{ℕ, _*_, _/_, _<_, _≤_, _∣_}
 use mathlib.Core.Path.{_≡_, refl, sym, ap, _∙_}
-use mathlib.Core.List.{List, [], _∷_}
+use mathlib.Core.List.{List, [], _∷_, _++_}
 use native.Mathlib.Nat.{one-dvd, dvd-trans, dvd-antisymm, le-of-dvd, pos-of-dvd-of-pos}
 use native.Mathlib.Decide.{decLe}
 use native.Mathlib.Omega.{arith}
@@ -72,3 +72,9 @@ running-from m (d ∷ ds) hm h =
 pub running-is : (ds : List ℕ) → 0 < commonMultiple ds → running ds ≡ limited (commonMultiple ds)
 unfolding running
 running-is ds h = running-from 1 ds (omega arith) h ∙ ap limited (lcm-comm 1 (commonMultiple ds) ∙ lcm-one (commonMultiple ds))
+
+-- one list after another
+pub running-append : (m : Multiple) (ds es : List ℕ) → runningFrom m (ds ++ es) ≡ runningFrom (runningFrom m ds) es
+unfolding runningFrom
+running-append m [] es = refl
+running-append m (d ∷ ds) es = running-append (included m d) ds es

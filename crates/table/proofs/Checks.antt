@@ -1,24 +1,34 @@
 -- The laws of the checks: the ways through refusals 2, 3 and 4 of one train, and the first refusal of some trains.
 -- Core: the ways of `entryCheck`, first-here, first-on. The rest follows from these.
 -- Assumes nothing.
-use Prim.Native.Nat.{ℕ, suc, _+_, _<_, _≤_}
+use Prim.Native.Nat.{ℕ, suc, _+_, _%_, _<_, _≤_}
 use mathlib.Core.Path.{_≡_, refl, sym, ap, _∙_}
 use mathlib.Core.Bool.{Bool, true, false}
 use mathlib.Core.List.{List, [], _∷_}
 use native.Mathlib.Numerals.{add-one}
+use native.Mathlib.Omega.{arith}
 use lib.ListN.{length, getD, drop, drop-of-length-le}
 use lib.Seq.{drop-cons}
-use borrow.Author.Tests.{eq-eqb, ne-eqb}
+use borrow.Author.Tests.{lt-ltb, le-ltb, eq-eqb, ne-eqb}
 use Rattle.refusal.specs.declared.Refusal.{Refusal}
-use Rattle.refusal.specs.declared.Refusal.the-variants.{ZeroDenominator, ZeroTime, DurationAbovePeriod}
+use Rattle.refusal.specs.declared.Refusal.the-variants.{TrainCount, ZeroDenominator, ZeroTime, DurationAbovePeriod}
 use Rattle.fraction.specs.Answer.{above}
 use Rattle.table.specs.declared.Entry.{Entry}
 use Rattle.table.specs.declared.Outcome.{Outcome}
 use Rattle.table.specs.declared.Outcome.the-variants.{Passed, Refused}
-use Rattle.table.specs.Row.{noEntry}
-use Rattle.table.specs.Answer.{orElse, firstRefusal, entryCheck}
+use Rattle.table.specs.Row.{numbers, longestRow, noEntry, entries}
+use Rattle.table.specs.Answer.{orElse, firstRefusal, entryCheck, checked}
 
 -- ---- Core laws
+
+-- an outcome is one or the other
+pub refused-not-passed : (r : Refusal) → Refused r ≡ Passed → ⊥
+refused-not-passed r e = let z : _≡_ {A = ℕ} 0 1 = cc in omega arith
+
+-- a check behind which nothing follows
+pub or-else-passed : (o : Outcome) → orElse o Passed ≡ o
+or-else-passed Passed = refl
+or-else-passed (Refused r) = refl
 
 -- the ways through the check of one train, each after those before it
 module _ (i : ℕ) (e : Entry) where
@@ -57,3 +67,57 @@ module _ (i : ℕ) (e : Entry) where
             unfolding entryCheck
             entry-passes b is h =
                 simp (ne-eqb _ _ phase, ne-eqb _ _ period, ne-eqb _ _ duration, ne-eqb _ _ some-period, ne-eqb _ _ some-duration, sym is ∙ h)
+
+-- the first refusal is that of the first train, or else of the others
+module _ (check : ℕ → Entry → Outcome) (es : List Entry) where
+  first-at : (i : ℕ) → i < length es → firstRefusal check i (drop i es) ≡ orElse (check i (getD es i noEntry)) (firstRefusal check (suc i) (drop (suc i) es))
+  unfolding firstRefusal
+  first-at i h = ap (firstRefusal check i) (drop-cons es i noEntry h)
+
+  pub first-here : (i : ℕ) (r : Refusal) → i < length es → check i (getD es i noEntry) ≡ Refused r → firstRefusal check i (drop i es) ≡ Refused r
+  first-here i r h e = first-at i h ∙ ap (λ (o : Outcome). orElse o (firstRefusal check (suc i) (drop (suc i) es))) e
+
+  pub first-on : (i : ℕ) → i < length es → check i (getD es i noEntry) ≡ Passed → firstRefusal check i (drop i es) ≡ firstRefusal check (i + 1) (drop (i + 1) es)
+  first-on i h e =
+      first-at i h
+      ∙ ap (λ (o : Outcome). orElse o (firstRefusal check (suc i) (drop (suc i) es))) e
+      ∙ ap (λ (n : ℕ). firstRefusal check n (drop n es)) (sym (add-one i))
+
+  pub first-end : (i : ℕ) → length es ≤ i → firstRefusal check i (drop i es) ≡ Passed
+  unfolding firstRefusal
+  first-end i h = ap (firstRefusal check i) (drop-of-length-le es h)
+
+  -- ---- The loop over the trains
+
+  -- The loop stands at position i, and what there is to refuse from the first train on is what there is from here on.
+  pub record Passing (i : ℕ) : Type 0 where
+    pub so-far : i ≤ length es
+    pub ahead : firstRefusal check i (drop i es) ≡ firstRefusal check 0 es
+
+  pub passing-begins : Passing 0
+  passing-begins = record { so-far = omega arith; ahead = refl }
+
+  module _ (i : ℕ) (passing : Passing i) where
+    pub passing-on : i < length es → check i (getD es i noEntry) ≡ Passed → Passing (i + 1)
+    passing-on h e = record { so-far = omega arith; ahead = sym (first-on i h e) ∙ passing .ahead }
+
+    pub passing-refused : (r : Refusal) → i < length es → check i (getD es i noEntry) ≡ Refused r → Refused r ≡ firstRefusal check 0 es
+    passing-refused r h e = sym (first-here i r h e) ∙ passing .ahead
+
+    pub passing-ends : length es ≤ i → Passed ≡ firstRefusal check 0 es
+    passing-ends h = sym (first-end i h) ∙ passing .ahead
+
+-- ---- The ways through refusals 1 to 4 of a row
+
+module _ (row : List ℕ) where
+  pub checked-ragged : (length row % numbers ≡ 0 → ⊥) → Refused TrainCount ≡ checked row
+  unfolding checked
+  checked-ragged h = simp (ne-eqb (length row % numbers) 0 h)
+
+  pub checked-longer : length row % numbers ≡ 0 → longestRow < length row → Refused TrainCount ≡ checked row
+  unfolding checked
+  checked-longer h l = simp (eq-eqb (length row % numbers) 0 h, lt-ltb longestRow (length row) l)
+
+  pub checked-trains : length row % numbers ≡ 0 → length row ≤ longestRow → firstRefusal entryCheck 0 (entries row) ≡ checked row
+  unfolding checked
+  checked-trains h l = simp (eq-eqb (length row % numbers) 0 h, le-ltb longestRow (length row) l)

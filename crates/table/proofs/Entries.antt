@@ -10,7 +10,7 @@ use lib.ListN.{length, getD, drop, List·getD-eq-default}
 use lib.Seq.{getD-drop}
 use Rattle.fraction.specs.declared.Fraction.{Fraction}
 use Rattle.table.specs.declared.Entry.{Entry}
-use Rattle.table.specs.Row.{numbers, timeAt, entryAt, entriesOf, entries, noEntry}
+use Rattle.table.specs.Row.{capacity, numbers, longestRow, timeAt, entryAt, entriesOf, entries, noEntry}
 
 -- ---- Core laws
 
@@ -59,6 +59,17 @@ pub entries-beyond : (row : List ℕ) (i : ℕ) → length row / numbers ≤ i �
 entries-beyond row i h = sym (List·getD-eq-default (entries row) noEntry (omega (arith, entries-length row)))
 
 -- ---- Derived
+
+-- a position within the count is one of an entry
+pub entries-in : (row : List ℕ) (i : ℕ) → i < length row / numbers → i < length (entries row)
+entries-in row i h = omega (arith, entries-length row)
+
+pub entries-out : (row : List ℕ) (i : ℕ) → length row / numbers ≤ i → length (entries row) ≤ i
+entries-out row i h = omega (arith, entries-length row)
+
+-- a row that is not too long has no more trains than a table takes
+pub entries-few : (row : List ℕ) → length row ≤ longestRow → length (entries row) ≤ capacity
+entries-few row h = omega (arith, entries-length row, div-mul-le-self (length row) numbers)
 
 -- the numbers of an entry stand in the row
 pub entries-within : (row : List ℕ) (i : ℕ) → i < length row / numbers → i * numbers + numbers ≤ length row

@@ -1,5 +1,7 @@
 -- The laws of table. Promises gathers what specs/Promises.antt states; callers cite the others.
-pub mod Checks
 pub mod Entries
-pub mod Ticking
+pub mod Checks
 pub mod Fineness
+pub mod Ticking
+pub mod Order
+pub mod Exactly

@@ -1,68 +1,74 @@
+-- `read_ticks` meets its contract. The loop's invariant: no train so far has a time that is too long, and the array holds
+-- them and zeros behind them. The measure is the trains that are left. Assumes nothing.
+use Prim.Native.Nat.{_-_}
+use mathlib.Core.Path.{sym, ap, _∙_}
+use native.Mathlib.Omega.{arith}
+use borrow.Author.Needs.{needs}
+use Rattle.table.specs.declared.Entry.{Entry}
+use Rattle.table.specs.Row.{entries}
+use Rattle.table.specs.Inside.{trainTimed}
+use Rattle.table.proofs.Entries.{entries-length, entries-few, entries-in}
+use Rattle.table.proofs.Ticking.{Filling, filling-begins, filling-room, filling-refused, filling-on, filling-ends}
 use Rattle.table.proofs.read_ticks.Statement.{statement}
 use Rattle.table.proofs.read_ticks.Tie as tie
-use Rattle.table.proofs.read_ticks.Reads as reads
-use Rattle.table.proofs.read_ticks.Lts as lts
-use Rattle.table.proofs.Entry.at.Reads as at-reads
-use Rattle.table.proofs.Entry.in_ticks.Reads as in-ticks-reads
-use Rattle.table.proofs.Reading.refused.Reads as refused-reads
 
 abbrev Inv-loop : tie.InvT-loop
-Inv-loop row tick trains₀ count position₀ trains position = ?
+Inv-loop row tick trains₀ count position₀ trains position = Filling tick (entries row) trains position
 
 abbrev μ-loop : tie.MeasureT-loop
-μ-loop row tick trains₀ count position₀ trains position = ?
+μ-loop row tick trains₀ count position₀ trains position = count - position
 
--- src/lib.rt:277:5
 loop-holds : tie.Need-loop-holds Inv-loop μ-loop
-loop-holds c = ?
+loop-holds c = filling-begins _ _ (entries-few _ (c .before .pre))
 
--- src/lib.rt:278:21
 at-requires : tie.Need-at-requires Inv-loop μ-loop
-at-requires c κs = ?
+at-requires c κs = search needs
 
--- src/lib.rt:278:13
 in-ticks-requires : tie.Need-in-ticks-requires Inv-loop μ-loop
-in-ticks-requires c κs = ?
+in-ticks-requires c κs = search needs
 
--- src/lib.rt:280:55
 enum-told : tie.Need-enum-told Inv-loop μ-loop
-enum-told c = ?
+enum-told c = search needs
 
--- src/lib.rt:280:31
 refused-requires : tie.Need-refused-requires Inv-loop μ-loop
-refused-requires c κs = ?
+refused-requires c κs = search needs
 
--- src/lib.rt:280:31
 returns : tie.Need-returns Inv-loop μ-loop
-returns c = ?
+returns c =
+    let told = c .before in
+    let calls = told .before .before in
+    let turn = calls .before .before in
+    let timed = calls .in-ticks .ensures ∙ ap (trainTimed _) (calls .before .at .ensures) in
+    c .refused .ensures
+    ∙ filling-refused _ _ _ _ (turn .before .loop .inv) _ (entries-in _ _ (turn .loop-test .taken)) timed (told .enum-told .given .1)
 
--- src/lib.rt:281:28
 enum-known-timed : tie.Need-enum-known-timed Inv-loop μ-loop
-enum-known-timed c = ?
+enum-known-timed c = search needs
 
--- src/lib.rt:281:38
 mul-trains : tie.Need-mul-trains Inv-loop μ-loop
-mul-trains c = ?
+mul-trains c = search needs
 
--- src/lib.rt:281:38
 array-set-from-trains : tie.Need-array-set-from-trains Inv-loop μ-loop
-array-set-from-trains c = ?
+array-set-from-trains c =
+    let turn = c .before .before .before .before .before in
+    filling-room _ _ _ _ (turn .before .loop .inv) (entries-in _ _ (turn .loop-test .taken))
 
--- src/lib.rt:283:9
 add-position : tie.Need-add-position Inv-loop μ-loop
-add-position c = ?
+add-position c = search needs
 
--- src/lib.rt:277:5
 loop-less : tie.Need-loop-less Inv-loop μ-loop
-loop-less c = ?
+loop-less c = omega arith
 
--- src/lib.rt:277:5
 loop-again : tie.Need-loop-again Inv-loop μ-loop
-loop-again c = ?
+loop-again c =
+    let told = c .before in
+    let calls = told .before .before in
+    let turn = calls .before .before in
+    let timed = calls .in-ticks .ensures ∙ ap (trainTimed _) (calls .before .at .ensures) in
+    filling-on _ _ _ _ (turn .before .loop .inv) _ _ (entries-in _ _ (turn .loop-test .taken)) timed (told .timed .given .1)
 
--- src/lib.rt:265:1
 returns-2 : tie.Need-returns-2 Inv-loop μ-loop
-returns-2 c = ?
+returns-2 c = filling-ends _ _ _ _ (c .before .loop .inv) _ (sym (entries-length _)) (c .loop-test .left)
 
 pub read-ticks-spec : {M : Type 1} → statement M
 read-ticks-spec =
