@@ -3,7 +3,7 @@
 use Prim.Native.Nat.{ℕ, _<_, _≤_}
 use mathlib.Core.Path.{_≡_, refl, sym, ap, _∙_}
 use mathlib.Core.Logic.{_⊎_, inl, inr}
-use native.Mathlib.Nat.{lt-trichotomy}
+use native.Mathlib.Decide.{decLe}
 use native.Mathlib.Omega.{arith}
 use Rattle.refusal.specs.declared.Refusal.{Refusal}
 use Rattle.refusal.specs.Paper.{paper}
@@ -22,9 +22,18 @@ not-earlier r s h p n (inr (e, inr (q, m))) = omega (arith, n (sym e) (sym q))
 pub earlier-irrefl : (r : Refusal) → Earlier r r → ⊥
 earlier-irrefl r = not-earlier r r (omega arith) (λ e. omega arith) (λ e q. omega arith)
 
+-- of two numbers one is smaller, or they are one
+three : (m n : ℕ) → (m < n) ⊎ ((m ≡ n) ⊎ (n < m))
+three m n = go (decLe m n) (decLe n m)
+  where
+    go : Dec (m ≤ n) → Dec (n ≤ m) → (m < n) ⊎ ((m ≡ n) ⊎ (n < m))
+    go (yes h) (yes k) = inr (inl (omega arith))
+    go (yes h) (no k) = inl (omega arith)
+    go (no h) k = inr (inr (omega arith))
+
 -- of two refusals one is earlier, or they are one
 pub earlier-total : (r s : Refusal) → (r ≡ s) ⊎ (Earlier r s ⊎ Earlier s r)
-earlier-total r s = stages (lt-trichotomy (stage r) (stage s))
+earlier-total r s = stages (three (stage r) (stage s))
   where
     numbers : stage r ≡ stage s → paper r .place ≡ paper s .place → (paper r .number < paper s .number) ⊎ ((paper r .number ≡ paper s .number) ⊎ (paper s .number < paper r .number)) → (r ≡ s) ⊎ (Earlier r s ⊎ Earlier s r)
     numbers e q (inl h) = inr (inl (inr (e, inr (q, h))))
@@ -33,10 +42,10 @@ earlier-total r s = stages (lt-trichotomy (stage r) (stage s))
 
     places : stage r ≡ stage s → (paper r .place < paper s .place) ⊎ ((paper r .place ≡ paper s .place) ⊎ (paper s .place < paper r .place)) → (r ≡ s) ⊎ (Earlier r s ⊎ Earlier s r)
     places e (inl h) = inr (inl (inr (e, inl h)))
-    places e (inr (inl q)) = numbers e q (lt-trichotomy (paper r .number) (paper s .number))
+    places e (inr (inl q)) = numbers e q (three (paper r .number) (paper s .number))
     places e (inr (inr h)) = inr (inr (inr (sym e, inl h)))
 
     stages : (stage r < stage s) ⊎ ((stage r ≡ stage s) ⊎ (stage s < stage r)) → (r ≡ s) ⊎ (Earlier r s ⊎ Earlier s r)
     stages (inl h) = inr (inl (inl h))
-    stages (inr (inl e)) = places e (lt-trichotomy (paper r .place) (paper s .place))
+    stages (inr (inl e)) = places e (three (paper r .place) (paper s .place))
     stages (inr (inr h)) = inr (inr (inl h))
