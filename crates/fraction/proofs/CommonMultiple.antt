@@ -3,6 +3,7 @@
 -- Assumes nothing.
 use Prim.Native.Nat.{ℕ, _*_, _/_, _<_, _≤_, _∣_}
 use mathlib.Core.Path.{_≡_, refl, sym, ap, _∙_}
+use mathlib.Core.Logic.{_↔_}
 use mathlib.Core.List.{List, [], _∷_, _++_}
 use native.Mathlib.Nat.{one-dvd, dvd-trans, dvd-antisymm, le-of-dvd, pos-of-dvd-of-pos}
 use native.Mathlib.Decide.{decLe}
@@ -78,3 +79,24 @@ pub running-append : (m : Multiple) (ds es : List ℕ) → runningFrom m (ds ++ 
 unfolding runningFrom
 running-append m [] es = refl
 running-append m (d ∷ ds) es = running-append (included m d) ds es
+
+-- whether the multiple of a list has passed the limit
+pub running-above : (ds : List ℕ) → 0 < commonMultiple ds → (running ds ≡ Above) ↔ (limit < commonMultiple ds)
+running-above ds h = (there (decLe (commonMultiple ds) limit), λ l. running-is ds h ∙ sym (above-limited (commonMultiple ds) (commonMultiple ds) l refl))
+  where
+    there : Dec (commonMultiple ds ≤ limit) → running ds ≡ Above → limit < commonMultiple ds
+    there (yes k) e =
+        let within = running-is ds h ∙ sym (within-limited (commonMultiple ds) (commonMultiple ds) k refl) in
+        let z : _≡_ {A = ℕ} 0 1 = cc in
+        absurd (omega arith)
+    there (no k) e = omega arith
+
+pub running-within : (ds : List ℕ) (m : ℕ) → 0 < commonMultiple ds → running ds ≡ Within m → m ≡ commonMultiple ds
+running-within ds m h e = go (decLe (commonMultiple ds) limit)
+  where
+    go : Dec (commonMultiple ds ≤ limit) → m ≡ commonMultiple ds
+    go (yes k) = let within = running-is ds h ∙ sym (within-limited (commonMultiple ds) (commonMultiple ds) k refl) in cc
+    go (no k) =
+        let above = running-above ds h .1 (omega arith) in
+        let z : _≡_ {A = ℕ} 0 1 = cc in
+        absurd (omega arith)

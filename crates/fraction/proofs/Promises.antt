@@ -20,6 +20,7 @@ promises =
       ticks-exact = ticks.ticks-exact;
       ticks-found = ticks.ticks-found;
       ticks-parts = ticks.ticks-parts;
+      ticks-lowest = ticks.ticks-lowest;
       above-ticks = order.above-ticks;
       above-same = order.above-same;
     }

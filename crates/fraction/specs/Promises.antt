@@ -29,6 +29,8 @@ pub record Promises : Type 0 where
   pub ticks-parts :
       (n m l : ℕ) → 0 < m → m ∣ l →
       wholeTicks (record { numerator = n; denominator = m }) (record { numerator = 1; denominator = l }) ≡ Whole (n * (l / m))
+  -- Other terms of the same time make no difference to its ticks.
+  pub ticks-lowest : (f tick : Fraction) → wholeTicks (lowest f) tick ≡ wholeTicks f tick
   -- F4. One time is above another exactly when it is more ticks, whatever the tick; and other terms make no difference.
   pub above-ticks :
       (f h tick : Fraction) (j k : ℕ) →

@@ -5,3 +5,4 @@ pub mod Fineness
 pub mod Ticking
 pub mod Order
 pub mod Exactly
+pub mod Conditions
