@@ -100,3 +100,12 @@ running-within ds m h e = go (decLe (commonMultiple ds) limit)
         let above = running-above ds h .1 (omega arith) in
         let z : _≡_ {A = ℕ} 0 1 = cc in
         absurd (omega arith)
+
+-- a multiple of positive numbers is positive
+pub multiple-none-pos : 0 < commonMultiple []
+unfolding commonMultiple
+multiple-none-pos = omega arith
+
+pub multiple-more-pos : (d : ℕ) (ds : List ℕ) → 0 < d → 0 < commonMultiple ds → 0 < commonMultiple (d ∷ ds)
+unfolding commonMultiple
+multiple-more-pos d ds h k = lcm-pos d (commonMultiple ds) h k

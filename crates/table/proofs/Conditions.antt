@@ -6,11 +6,13 @@ use mathlib.Core.Path.{_≡_, refl, sym, ap, subst, _∙_}
 use mathlib.Core.Bool.{Bool, true, false, not}
 use mathlib.Core.Logic.{_↔_, _⊎_, inl, inr, ⊎-elim}
 use mathlib.Core.List.{List, [], _∷_, _++_}
+use mathlib.Mathlib.Data.Bool.Basic.{eq-false-eq-not-eq-true}
 use native.Mathlib.Nat.{mod-eq-zero-of-dvd, dvd-of-mod-eq-zero}
+use native.Mathlib.Decide.{decLe}
 use native.Mathlib.Omega.{arith}
 use lib.Dec.{ltb, eqb}
 use lib.ListN.{length, getD, take}
-use borrow.Author.Tests.{lt-ltb, ltb-true, eq-eqb, eqb-true, ne-eqb, not-true}
+use borrow.Author.Tests.{lt-ltb, ltb-true, eq-eqb, eqb-true, eqb-false, ne-eqb, not-true}
 use Rattle.refusal.specs.declared.Refusal.{Refusal}
 use Rattle.refusal.specs.declared.Refusal.the-variants.{TrainCount, ZeroDenominator, ZeroTime, DurationAbovePeriod, TickTooFine, TimeTooLong}
 use Rattle.refusal.specs.Paper.{paper}
@@ -27,31 +29,38 @@ use Rattle.table.proofs.Exactly.{Exact, test-exact, or-else-exact, exac
 -- ---- Where a refusal stands in the order
 
 -- Stage n, train i, and a number of at least k.
-record Stands (n i k : ℕ) (s : Refusal) : Type 0 where
-  at-stage : stage s ≡ n
-  at-train : paper s .place ≡ i
-  at-number : k ≤ paper s .number
+pub record Stands (n i k : ℕ) (s : Refusal) : Type 0 where
+  pub at-stage : stage s ≡ n
+  pub at-train : paper s .place ≡ i
+  pub at-number : k ≤ paper s .number
 
 -- All conditions of C stand so.
-abbrev AllStand : (n i k : ℕ) → (Refusal → Type 0) → Type 0
+abbrev pub AllStand : (n i k : ℕ) → (Refusal → Type 0) → Type 0
 AllStand n i k C = (s : Refusal) → C s → Stands n i k s
 
-stands-test : (r : Refusal) (P : Type 0) (n i k : ℕ) → Stands n i k r → AllStand n i k (λ s. (s ≡ r) × P)
+pub stands-test : (r : Refusal) (P : Type 0) (n i k : ℕ) → Stands n i k r → AllStand n i k (λ s. (s ≡ r) × P)
 stands-test r P n i k h s c = subst (Stands n i k) (sym (c .0)) h
 
+-- one test, and then what does not come before it
+test-then :
+    (b : Bool) (r : Refusal) (P : Type 0) → (b ≡ true) ↔ P → (p : Outcome) (D : Refusal → Type 0) → Exact p D →
+    ((s : Refusal) → D s → Earlier s r → ⊥) → Exact (orElse (test b r) p) (λ s. ((s ≡ r) × P) ⊎ D s)
+test-then b r P is p D exact later =
+    or-else-exact (test b r) p (λ s. (s ≡ r) × P) D (test-exact b r P is) (λ passed. exact)
+    (λ q s c d early. later s d (subst (Earlier s) (c .0) early))
+
 -- one test of a train, and then others of larger or equal numbers
-then-exact :
+pub then-exact :
     (b : Bool) (r : Refusal) (P : Type 0) → (b ≡ true) ↔ P → (p : Outcome) (D : Refusal → Type 0) → Exact p D →
     AllStand (stage r) (paper r .place) (paper r .number) D → Exact (orElse (test b r) p) (λ s. ((s ≡ r) × P) ⊎ D s)
 then-exact b r P is p D exact stand =
-    or-else-exact (test b r) p (λ s. (s ≡ r) × P) D (test-exact b r P is) (λ passed. exact)
-    (λ q s c d early.
+    test-then b r P is p D exact
+    (λ s d.
     let h = stand s d in
-    not-earlier r s (omega (arith, h .at-stage)) (λ e. omega (arith, h .at-train)) (λ e f. h .at-number)
-    (subst (Earlier s) (c .0) early))
+    not-earlier r s (omega (arith, h .at-stage)) (λ e. omega (arith, h .at-train)) (λ e f. h .at-number))
 
 -- the trains one after another
-trains-exact :
+pub trains-exact :
     (n : ℕ) (check : ℕ → Entry → Outcome) (C : ℕ → Entry → Refusal → Type 0) → ((i : ℕ) (e : Entry) → AllStand n i 0 (C i e)) →
     (es : List Entry) → ((k : ℕ) → k < length es → Exact (check k (getD es k noEntry)) (C k (getD es k noEntry))) →
     Exact (firstRefusal check 0 es) (λ r. (k : ℕ) × (k < length es) × C k (getD es k noEntry) r)
@@ -80,7 +89,7 @@ ltb-is : (a b : ℕ) → (ltb a b ≡ true) ↔ (a < b)
 ltb-is a b = (ltb-true a b, lt-ltb a b)
 
 -- Refusals 2, 3 and 4 of the train at position i.
-abbrev EntryCondition : ℕ → Entry → Refusal → Type 0
+abbrev pub EntryCondition : ℕ → Entry → Refusal → Type 0
 EntryCondition i e r =
     ((r ≡ ZeroDenominator i) × NoDenominator e)
     ⊎ (((r ≡ ZeroTime i) × NoTime e)
@@ -132,3 +141,94 @@ entry-exact i e =
     back r (inr (inl (q, inl z))) = inr (inr (inr (inl (q, z))))
     back r (inr (inl (q, inr z))) = inr (inr (inr (inr (inl (q, z)))))
     back r (inr (inr c)) = inr (inr (inr (inr (inr c))))
+
+pub entry-stands : (i : ℕ) (e : Entry) → AllStand 1 i 0 (EntryCondition i e)
+entry-stands i e s =
+    ⊎-elim (stands-test (ZeroDenominator i) _ 1 i 0 (record { at-stage = refl; at-train = refl; at-number = omega arith }) s)
+    (⊎-elim (stands-test (ZeroTime i) _ 1 i 0 (record { at-stage = refl; at-train = refl; at-number = omega arith }) s)
+    (stands-test (DurationAbovePeriod i) _ 1 i 0 (record { at-stage = refl; at-train = refl; at-number = omega arith }) s))
+
+-- Some train of the list has the condition C at its position.
+abbrev pub Some : List Entry → (ℕ → Entry → Refusal → Type 0) → Refusal → Type 0
+Some es C r = (k : ℕ) × (k < length es) × C k (getD es k noEntry) r
+
+-- Refusals 1 to 4 of a row.
+abbrev pub CheckedCondition : List ℕ → Refusal → Type 0
+CheckedCondition row r =
+    ((r ≡ TrainCount) × ((numbers ∣ length row → ⊥) ⊎ (longestRow < length row))) ⊎ Some (entries row) EntryCondition r
+
+pub checked-exact : (row : List ℕ) → Exact (checked row) (CheckedCondition row)
+unfolding checked
+checked-exact row =
+    exact-same _ _ _ (λ r. (there r, back r))
+    (test-then _ TrainCount (numbers ∣ length row → ⊥) ragged _ _
+    (test-then _ TrainCount (longestRow < length row) (ltb-is longestRow (length row)) _ _
+    (trains-exact 1 entryCheck EntryCondition entry-stands (entries row) (λ k h. entry-exact k (getD (entries row) k noEntry)))
+    trains-later)
+    (λ s. ⊎-elim (λ c early. not-earlier TrainCount TrainCount (omega arith) (λ q. omega arith) (λ q p. omega arith) (subst (λ (x : Refusal). Earlier x TrainCount) (c .0) early)) (trains-later s)))
+  where
+    ragged : (not (eqb (length row % numbers) 0) ≡ true) ↔ (numbers ∣ length row → ⊥)
+    ragged =
+        ((λ t d. eqb-false (length row % numbers) 0 (not-true _ t) (mod-eq-zero-of-dvd numbers d)),
+        (λ f. ap not (ne-eqb (length row % numbers) 0 (λ z. f (dvd-of-mod-eq-zero numbers z)))))
+
+    trains-later : (s : Refusal) → Some (entries row) EntryCondition s → Earlier s TrainCount → ⊥
+    trains-later s w =
+        let h = entry-stands (w .0) (getD (entries row) (w .0) noEntry) s (w .2) in
+        not-earlier TrainCount s (omega (arith, h .at-stage)) (λ q. absurd (omega (arith, h .at-stage))) (λ q p. absurd (omega (arith, h .at-stage)))
+
+    Three : Refusal → Type 0
+    Three r = ((r ≡ TrainCount) × (numbers ∣ length row → ⊥)) ⊎ (((r ≡ TrainCount) × (longestRow < length row)) ⊎ Some (entries row) EntryCondition r)
+
+    there : (r : Refusal) → Three r → CheckedCondition row r
+    there r (inl (q, d)) = inl (q, inl d)
+    there r (inr (inl (q, l))) = inl (q, inr l)
+    there r (inr (inr w)) = inr w
+
+    back : (r : Refusal) → CheckedCondition row r → Three r
+    back r (inl (q, inl d)) = inl (q, d)
+    back r (inl (q, inr l)) = inr (inl (q, l))
+    back r (inr w) = inr (inr w)
+
+-- ---- A row that passes refusals 1 to 4
+
+-- What is so of the entries of such a row.
+pub record Sound (e : Entry) : Type 0 where
+  pub phase : 0 < e .phase .denominator
+  pub period : 0 < e .period .denominator
+  pub duration : 0 < e .duration .denominator
+  pub some-period : 0 < e .period .numerator
+  pub some-duration : 0 < e .duration .numerator
+  pub fits : above (e .duration) (e .period) ≡ false
+
+abbrev pub AllSound : List Entry → Type 0
+AllSound es = (k : ℕ) → k < length es → Sound (getD es k noEntry)
+
+positive : (n : ℕ) → (n ≡ 0 → ⊥) → 0 < n
+positive zero f = absurd (f refl)
+positive (suc n) f = omega arith
+
+pub checked-sound : (row : List ℕ) → checked row ≡ Passed → AllSound (entries row)
+checked-sound row e k h =
+    let none : (r : Refusal) → EntryCondition k (getD (entries row) k noEntry) r → ⊥ = λ r c. checked-exact row .passed e r (inr (k, h, c)) in
+    record {
+      phase = positive _ (λ z. none (ZeroDenominator k) (inl (refl, inl z)));
+      period = positive _ (λ z. none (ZeroDenominator k) (inl (refl, inr (inl z))));
+      duration = positive _ (λ z. none (ZeroDenominator k) (inl (refl, inr (inr z))));
+      some-period = positive _ (λ z. none (ZeroTime k) (inr (inl (refl, inl z))));
+      some-duration = positive _ (λ z. none (ZeroTime k) (inr (inl (refl, inr z))));
+      fits = eq-false-eq-not-eq-true _ .0 (λ t. none (DurationAbovePeriod k) (inr (inr (refl, t))));
+    }
+
+pub checked-whole : (row : List ℕ) → checked row ≡ Passed → (numbers ∣ length row) × (length row ≤ longestRow)
+checked-whole row e =
+    let none : ((numbers ∣ length row → ⊥) ⊎ (longestRow < length row)) → ⊥ = λ c. checked-exact row .passed e TrainCount (inl (refl, c)) in
+    (dvd-of-mod-eq-zero numbers (zero-of (length row % numbers) (λ f. none (inl (λ d. f (mod-eq-zero-of-dvd numbers d))))), not-above (decLe (length row) longestRow) (λ l. none (inr l)))
+  where
+    zero-of : (n : ℕ) → ((n ≡ 0 → ⊥) → ⊥) → n ≡ 0
+    zero-of zero f = refl
+    zero-of (suc n) f = absurd (f (λ z. omega arith))
+
+    not-above : Dec (length row ≤ longestRow) → (longestRow < length row → ⊥) → length row ≤ longestRow
+    not-above (yes h) f = h
+    not-above (no h) f = absurd (f (omega arith))

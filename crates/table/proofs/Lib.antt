@@ -6,3 +6,4 @@ pub mod Ticking
 pub mod Order
 pub mod Exactly
 pub mod Conditions
+pub mod Limits

@@ -1,0 +1,213 @@
+-- The tick and the trains of a row that passes refusals 1 to 4; refusals 5 and 6 exactly, and with them all of a table's.
+-- Core: multiple-pos, divides-at, ticks-at, fine-exact, long-exact. The rest follows from these.
+-- Assumes nothing.
+use Prim.Native.Nat.{ℕ, zero, suc, _+_, _*_, _/_, _<_, _≤_, _∣_}
+use mathlib.Core.Path.{_≡_, refl, sym, ap, subst, _∙_}
+use mathlib.Core.Bool.{Bool, true, false}
+use mathlib.Core.Logic.{_↔_, _⊎_, inl, inr, ⊎-elim}
+use mathlib.Core.List.{List, [], _∷_, _++_}
+use native.Mathlib.Omega.{arith}
+use lib.ListN.{length, getD, take, length-take}
+use lib.Seq.{getD-take}
+use borrow.Author.Tests.{lt-ltb, ltb-true}
+use Rattle.refusal.specs.declared.Refusal.{Refusal}
+use Rattle.refusal.specs.declared.Refusal.the-variants.{TrainCount, ZeroDenominator, ZeroTime, DurationAbovePeriod, TickTooFine, TimeTooLong, BufferTooShort, WrongMark, WrongVersion, WrongLength, NotLowestTerms, NotATrain, NoEmptyPlace, Collision, NoTrainThere, WrongCount}
+use Rattle.fraction.specs.declared.Fraction.{Fraction}
+use Rattle.fraction.specs.declared.Ticks.{Ticks}
+use Rattle.fraction.specs.declared.Ticks.the-variants.{NotWhole, Whole}
+use Rattle.fraction.specs.declared.Multiple.{Multiple}
+use Rattle.fraction.specs.declared.Multiple.the-variants.{Above, Within}
+use Rattle.fraction.specs.Value.{IsTicks, AllDivide}
+use Rattle.fraction.specs.Answer.{lowest, wholeTicks, limit, commonMultiple, running}
+use Rattle.fraction.proofs.Lowest.{lowest-terms}
+use Rattle.fraction.proofs.CommonMultiple.{multiple-is, multiple-none-pos, multiple-more-pos, running-above}
+use Rattle.fraction.proofs.WholeTicks.{ticks-exact, ticks-found, ticks-multiple}
+use Rattle.train.specs.Claims.{maxTicks}
+use Rattle.table.specs.declared.Entry.{Entry}
+use Rattle.table.specs.declared.Outcome.{Outcome}
+use Rattle.table.specs.declared.Outcome.the-variants.{Passed, Refused}
+use Rattle.table.specs.Row.{noEntry, entries, denominatorsOf, denominators, multiple, tick}
+use Rattle.table.specs.Given.{TooManyTicks, TooLong, Condition, stage, Earlier}
+use Rattle.table.specs.Answer.{test, isAbove, fineCheck, fine, tooMany, longCheck, short, refusal, checked}
+use Rattle.table.proofs.Order.{not-earlier}
+use Rattle.table.proofs.Exactly.{Exact, test-exact, or-else-exact, exact-same}
+use Rattle.table.proofs.Conditions.{Stands, AllStand, stands-test, then-exact, trains-exact, Some, EntryCondition, entry-stands, CheckedCondition, checked-exact, Sound, AllSound, checked-sound}
+
+-- ---- Core laws
+
+-- a multiple of denominators is not 0
+pub multiple-pos : (es : List Entry) → AllSound es → 0 < multiple es
+unfolding denominators
+multiple-pos [] sound = multiple-none-pos
+multiple-pos (e ∷ es) sound =
+    let s = sound 0 (omega arith) in
+    let rest = multiple-pos es (λ k h. sound (suc k) (omega arith)) in
+    multiple-more-pos _ _ (lowest-terms (e .phase) (s .phase) .positive)
+    (multiple-more-pos _ _ (lowest-terms (e .period) (s .period) .positive)
+    (multiple-more-pos _ _ (lowest-terms (e .duration) (s .duration) .positive) rest))
+
+-- the first trains of a sound list are sound
+pub sound-take : (n : ℕ) (es : List Entry) → AllSound es → AllSound (take n es)
+sound-take n es sound k h =
+    let lt : (k < n) × (k < length es) = (omega (arith, length-take n es), omega (arith, length-take n es)) in
+    subst Sound (sym (getD-take n es k noEntry (lt .0))) (sound k (lt .1))
+
+-- what all of two lists divide, and the parts
+divide-front : (ds es : List ℕ) (m : ℕ) → AllDivide (ds ++ es) m → AllDivide ds m × AllDivide es m
+divide-front [] es m all = (tt, all)
+divide-front (d ∷ ds) es m all = let rest = divide-front ds es m (all .1) in ((all .0, rest .0), rest .1)
+
+-- the denominators of each train divide what all denominators divide
+divides-at : (es : List Entry) (m k : ℕ) → AllDivide (denominators es) m → k < length es → AllDivide (denominatorsOf (getD es k noEntry)) m
+unfolding denominators
+divides-at [] m k all h = absurd (omega arith)
+divides-at (e ∷ es) m zero all h = divide-front (denominatorsOf e) (denominators es) m all .0
+divides-at (e ∷ es) m (suc k) all h = divides-at es m k (divide-front (denominatorsOf e) (denominators es) m all .1) (omega arith)
+
+-- Every time of a train is a whole number of ticks.
+pub record WholeTimes (tick : Fraction) (e : Entry) : Type 0 where
+  pub phase : (k : ℕ) × (wholeTicks (e .phase) tick ≡ Whole k)
+  pub period : (k : ℕ) × (wholeTicks (e .period) tick ≡ Whole k)
+  pub duration : (k : ℕ) × (wholeTicks (e .duration) tick ≡ Whole k)
+
+pub ticks-at : (es : List Entry) (k : ℕ) → AllSound es → k < length es → WholeTimes (tick es) (getD es k noEntry)
+ticks-at es k sound h =
+    let s = sound k h in
+    let all = divides-at es (multiple es) k (multiple-is (denominators es) .multiple) h in
+    record {
+      phase = (_, ticks-multiple _ _ (s .phase) (all .0));
+      period = (_, ticks-multiple _ _ (s .period) (all .1 .0));
+      duration = (_, ticks-multiple _ _ (s .duration) (all .1 .1 .0));
+    }
+
+-- ---- Refusal 5
+
+above-is : (m : Multiple) → (isAbove m ≡ true) ↔ (m ≡ Above)
+above-is Above = ((λ t. refl), (λ e. refl))
+above-is (Within n) =
+    ((λ t. let z : _≡_ {A = ℕ} 0 1 = cc in absurd (omega arith)), (λ e. let z : _≡_ {A = ℕ} 0 1 = cc in absurd (omega arith)))
+
+abbrev FineCondition : List Entry → ℕ → Entry → Refusal → Type 0
+FineCondition es i e r = (r ≡ TickTooFine i) × (limit < multiple (take (suc i) es))
+
+fine-stands : (es : List Entry) (i : ℕ) (e : Entry) → AllStand 2 i 0 (FineCondition es i e)
+fine-stands es i e = stands-test (TickTooFine i) _ 2 i 0 (record { at-stage = refl; at-train = refl; at-number = omega arith })
+
+fine-exact : (es : List Entry) → AllSound es → Exact (fine es) (Some es (FineCondition es))
+fine-exact es sound =
+    trains-exact 2 (fineCheck es) (FineCondition es) (fine-stands es) es
+    (λ k h.
+    let pos = multiple-pos (take (suc k) es) (sound-take (suc k) es sound) in
+    let passes = running-above (denominators (take (suc k) es)) pos in
+    let is = above-is (running (denominators (take (suc k) es))) in
+    test-exact _ (TickTooFine k) _ ((λ t. passes .0 (is .0 t)), (λ l. is .1 (passes .1 l))))
+
+-- ---- Refusal 6
+
+many-is : (time tick : Fraction) → 0 < time .denominator → 0 < tick .numerator → ((k : ℕ) × (wholeTicks time tick ≡ Whole k)) → (tooMany (wholeTicks time tick) ≡ true) ↔ TooManyTicks tick time
+many-is time tick pm pa (k, e) =
+    ((λ t. (k, ticks-exact time tick k e, ltb-true maxTicks k (ap tooMany (sym e) ∙ t))),
+    (λ w. ap tooMany (ticks-found time tick (w .0) pm pa (w .1)) ∙ lt-ltb maxTicks (w .0) (w .2)))
+
+abbrev LongCondition : Fraction → ℕ → Entry → Refusal → Type 0
+LongCondition tick i e r = (r ≡ TimeTooLong i) × TooLong tick e
+
+long-stands : (tick : Fraction) (i : ℕ) (e : Entry) → AllStand 3 i 0 (LongCondition tick i e)
+long-stands tick i e = stands-test (TimeTooLong i) _ 3 i 0 (record { at-stage = refl; at-train = refl; at-number = omega arith })
+
+long-one : (tick : Fraction) (i : ℕ) (e : Entry) → 0 < tick .numerator → Sound e → WholeTimes tick e → Exact (longCheck tick i e) (LongCondition tick i e)
+unfolding longCheck
+long-one tick i e pa s w =
+    let six : Stands 3 i 6 (TimeTooLong i) = record { at-stage = refl; at-train = refl; at-number = omega arith } in
+    let a : (P : Type 0) → AllStand 3 i 6 (λ r. (r ≡ TimeTooLong i) × P) = λ P. stands-test (TimeTooLong i) P 3 i 6 six in
+    exact-same _ _ _ (λ r. (there r, back r))
+    (then-exact _ _ _ (many-is (e .phase) tick (s .phase) pa (w .phase)) _ _
+    (then-exact _ _ _ (many-is (e .period) tick (s .period) pa (w .period)) _ _
+    (test-exact _ _ _ (many-is (e .duration) tick (s .duration) pa (w .duration)))
+    (a _))
+    (λ r. ⊎-elim (a _ r) (a _ r)))
+  where
+    Three : Refusal → Type 0
+    Three r =
+        ((r ≡ TimeTooLong i) × TooManyTicks tick (e .phase))
+        ⊎ (((r ≡ TimeTooLong i) × TooManyTicks tick (e .period)) ⊎ ((r ≡ TimeTooLong i) × TooManyTicks tick (e .duration)))
+
+    there : (r : Refusal) → Three r → LongCondition tick i e r
+    there r (inl (q, c)) = (q, inl c)
+    there r (inr (inl (q, c))) = (q, inr (inl c))
+    there r (inr (inr (q, c))) = (q, inr (inr c))
+
+    back : (r : Refusal) → LongCondition tick i e r → Three r
+    back r (q, inl c) = inl (q, c)
+    back r (q, inr (inl c)) = inr (inl (q, c))
+    back r (q, inr (inr c)) = inr (inr (q, c))
+
+long-exact : (es : List Entry) → AllSound es → Exact (short (tick es) es) (Some es (LongCondition (tick es)))
+long-exact es sound =
+    trains-exact 3 (longCheck (tick es)) (LongCondition (tick es)) (long-stands (tick es)) es
+    (λ k h. long-one (tick es) k (getD es k noEntry) (omega arith) (sound k h) (ticks-at es k sound h))
+
+-- ---- All refusals of a table
+
+-- a later stage comes no earlier
+stage-order : (n m i j : ℕ) (r s : Refusal) → Stands n i 0 r → Stands m j 0 s → n < m → Earlier s r → ⊥
+stage-order n m i j r s h k lt =
+    not-earlier r s (omega (arith, h .at-stage, k .at-stage)) (λ q. absurd (omega (arith, h .at-stage, k .at-stage)))
+    (λ q p. absurd (omega (arith, h .at-stage, k .at-stage)))
+
+pub refusal-exact : (row : List ℕ) → Exact (refusal row) (Condition row)
+unfolding refusal
+refusal-exact row =
+    exact-same _ _ _ (λ r. (there r, back r))
+    (or-else-exact _ _ (CheckedCondition row) later (checked-exact row)
+    (λ passed.
+    let sound = checked-sound row passed in
+    or-else-exact _ _ (Some (entries row) (FineCondition (entries row))) (Some (entries row) (LongCondition (tick (entries row))))
+    (fine-exact (entries row) sound)
+    (λ fine. long-exact (entries row) sound)
+    (λ r s c d. stage-order 2 3 _ _ r s (fine-stands (entries row) (c .0) _ r (c .2)) (long-stands (tick (entries row)) (d .0) _ s (d .2)) (omega arith)))
+    checked-first)
+  where
+    later : Refusal → Type 0
+    later r = Some (entries row) (FineCondition (entries row)) r ⊎ Some (entries row) (LongCondition (tick (entries row))) r
+
+    -- refusals 1 to 4 come before 5 and 6
+    later-stands : (s : Refusal) → later s → (1 < stage s)
+    later-stands s (inl d) = omega (arith, fine-stands (entries row) (d .0) (getD (entries row) (d .0) noEntry) s (d .2) .at-stage)
+    later-stands s (inr d) = omega (arith, long-stands (tick (entries row)) (d .0) (getD (entries row) (d .0) noEntry) s (d .2) .at-stage)
+
+    checked-stands : (r : Refusal) → CheckedCondition row r → (stage r ≤ 1)
+    checked-stands r (inl (q, c)) = omega (arith, ap stage q)
+    checked-stands r (inr d) = omega (arith, entry-stands (d .0) (getD (entries row) (d .0) noEntry) r (d .2) .at-stage)
+
+    checked-first : (r s : Refusal) → CheckedCondition row r → later s → Earlier s r → ⊥
+    checked-first r s c d =
+        let lo = checked-stands r c in
+        let hi = later-stands s d in
+        not-earlier r s (omega arith) (λ q. absurd (omega arith)) (λ q p. absurd (omega arith))
+
+    there : (r : Refusal) → CheckedCondition row r ⊎ later r → Condition row r
+    there r (inl (inl (q, c))) = subst (Condition row) (sym q) c
+    there r (inl (inr (k, h, inl (q, c)))) = subst (Condition row) (sym q) (h, c)
+    there r (inl (inr (k, h, inr (inl (q, c))))) = subst (Condition row) (sym q) (h, c)
+    there r (inl (inr (k, h, inr (inr (q, c))))) = subst (Condition row) (sym q) (h, c)
+    there r (inr (inl (k, h, (q, c)))) = subst (Condition row) (sym q) (h, c)
+    there r (inr (inr (k, h, (q, c)))) = subst (Condition row) (sym q) (h, c)
+
+    back : (r : Refusal) → Condition row r → CheckedCondition row r ⊎ later r
+    back TrainCount c = inl (inl (refl, c))
+    back (ZeroDenominator k) (h, c) = inl (inr (k, h, inl (refl, c)))
+    back (ZeroTime k) (h, c) = inl (inr (k, h, inr (inl (refl, c))))
+    back (DurationAbovePeriod k) (h, c) = inl (inr (k, h, inr (inr (refl, c))))
+    back (TickTooFine k) (h, c) = inr (inl (k, h, (refl, c)))
+    back (TimeTooLong k) (h, c) = inr (inr (k, h, (refl, c)))
+    back BufferTooShort c = absurd c
+    back WrongMark c = absurd c
+    back WrongVersion c = absurd c
+    back WrongLength c = absurd c
+    back (NotLowestTerms k) c = absurd c
+    back NotATrain c = absurd c
+    back NoEmptyPlace c = absurd c
+    back (Collision k) c = absurd c
+    back NoTrainThere c = absurd c
+    back WrongCount c = absurd c
