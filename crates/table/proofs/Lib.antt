@@ -7,3 +7,4 @@ pub mod Order
 pub mod Exactly
 pub mod Conditions
 pub mod Limits
+pub mod Readings
