@@ -14,7 +14,7 @@ use lib.Dec.{ltb, eqb}
 use lib.ListN.{length, getD, take}
 use borrow.Author.Tests.{lt-ltb, ltb-true, eq-eqb, eqb-true, eqb-false, ne-eqb, not-true}
 use Rattle.refusal.specs.declared.Refusal.{Refusal}
-use Rattle.refusal.specs.declared.Refusal.the-variants.{TrainCount, ZeroDenominator, ZeroTime, DurationAbovePeriod, TickTooFine, TimeTooLong}
+use Rattle.refusal.specs.declared.Refusal.the-variants.{TrainCount, ZeroDenominator, ZeroTime, DurationAbovePeriod, TickTooFine, TimeTooLong, BufferTooShort, WrongMark, WrongVersion, WrongLength, NotLowestTerms, NotATrain, NoEmptyPlace, Collision, NoTrainThere, WrongCount}
 use Rattle.refusal.specs.Paper.{paper}
 use Rattle.fraction.specs.Answer.{above, limit}
 use Rattle.table.specs.declared.Entry.{Entry}
@@ -189,6 +189,34 @@ checked-exact row =
     back r (inl (q, inl d)) = inl (q, d)
     back r (inl (q, inr l)) = inr (inl (q, l))
     back r (inr w) = inr (inr w)
+
+-- the conditions of refusals 1 to 4 are those of the first two stages
+pub checked-condition : (row : List ℕ) (r : Refusal) → CheckedCondition row r ↔ (Condition row r × (stage r ≤ 1))
+checked-condition row r = (there r, λ c. back r (c .0) (c .1))
+  where
+    there : (r : Refusal) → CheckedCondition row r → Condition row r × (stage r ≤ 1)
+    there r (inl (q, c)) = subst (λ (s : Refusal). Condition row s × (stage s ≤ 1)) (sym q) (c, omega arith)
+    there r (inr (k, h, inl (q, c))) = subst (λ (s : Refusal). Condition row s × (stage s ≤ 1)) (sym q) ((h, c), omega arith)
+    there r (inr (k, h, inr (inl (q, c)))) = subst (λ (s : Refusal). Condition row s × (stage s ≤ 1)) (sym q) ((h, c), omega arith)
+    there r (inr (k, h, inr (inr (q, c)))) = subst (λ (s : Refusal). Condition row s × (stage s ≤ 1)) (sym q) ((h, c), omega arith)
+
+    back : (r : Refusal) → Condition row r → stage r ≤ 1 → CheckedCondition row r
+    back TrainCount c l = inl (refl, c)
+    back (ZeroDenominator k) (h, c) l = inr (k, h, inl (refl, c))
+    back (ZeroTime k) (h, c) l = inr (k, h, inr (inl (refl, c)))
+    back (DurationAbovePeriod k) (h, c) l = inr (k, h, inr (inr (refl, c)))
+    back (TickTooFine k) c l = absurd (omega arith)
+    back (TimeTooLong k) c l = absurd (omega arith)
+    back BufferTooShort c l = absurd c
+    back WrongMark c l = absurd c
+    back WrongVersion c l = absurd c
+    back WrongLength c l = absurd c
+    back (NotLowestTerms k) c l = absurd c
+    back NotATrain c l = absurd c
+    back NoEmptyPlace c l = absurd c
+    back (Collision k) c l = absurd c
+    back NoTrainThere c l = absurd c
+    back WrongCount c l = absurd c
 
 -- ---- A row that passes refusals 1 to 4
 

@@ -8,3 +8,5 @@ pub mod Exactly
 pub mod Conditions
 pub mod Limits
 pub mod Readings
+pub mod Terms
+pub mod Promises

@@ -6,6 +6,7 @@ use mathlib.Core.Path.{_≡_, refl, sym, ap, subst, _∙_}
 use mathlib.Core.Bool.{Bool, true, false}
 use mathlib.Core.Logic.{_↔_, _⊎_, inl, inr, ⊎-elim}
 use mathlib.Core.List.{List, [], _∷_, _++_}
+use native.Mathlib.Decide.{decLe}
 use native.Mathlib.Omega.{arith}
 use lib.ListN.{length, getD, take, length-take}
 use lib.Seq.{getD-take}
@@ -31,7 +32,7 @@ use Rattle.table.specs.Given.{TooManyTicks, TooLong, Condition, stage, E
 use Rattle.table.specs.Answer.{test, isAbove, fineCheck, fine, tooMany, longCheck, short, refusal, checked}
 use Rattle.table.proofs.Order.{not-earlier}
 use Rattle.table.proofs.Exactly.{Exact, test-exact, or-else-exact, exact-same}
-use Rattle.table.proofs.Conditions.{Stands, AllStand, stands-test, then-exact, trains-exact, Some, EntryCondition, entry-stands, CheckedCondition, checked-exact, Sound, AllSound, checked-sound}
+use Rattle.table.proofs.Conditions.{Stands, AllStand, stands-test, then-exact, trains-exact, Some, CheckedCondition, checked-exact, checked-condition, Sound, AllSound, checked-sound}
 
 -- ---- Core laws
 
@@ -165,7 +166,10 @@ refusal-exact row =
     or-else-exact _ _ (Some (entries row) (FineCondition (entries row))) (Some (entries row) (LongCondition (tick (entries row))))
     (fine-exact (entries row) sound)
     (λ fine. long-exact (entries row) sound)
-    (λ r s c d. stage-order 2 3 _ _ r s (fine-stands (entries row) (c .0) _ r (c .2)) (long-stands (tick (entries row)) (d .0) _ s (d .2)) (omega arith)))
+    (λ r s c d.
+    stage-order 2 3 _ _ r s (fine-stands (entries row) (c .0) (getD (entries row) (c .0) noEntry) r (c .2))
+    (long-stands (tick (entries row)) (d .0) (getD (entries row) (d .0) noEntry) s (d .2))
+    (omega arith)))
     checked-first)
   where
     later : Refusal → Type 0
@@ -176,38 +180,39 @@ refusal-exact row =
     later-stands s (inl d) = omega (arith, fine-stands (entries row) (d .0) (getD (entries row) (d .0) noEntry) s (d .2) .at-stage)
     later-stands s (inr d) = omega (arith, long-stands (tick (entries row)) (d .0) (getD (entries row) (d .0) noEntry) s (d .2) .at-stage)
 
-    checked-stands : (r : Refusal) → CheckedCondition row r → (stage r ≤ 1)
-    checked-stands r (inl (q, c)) = omega (arith, ap stage q)
-    checked-stands r (inr d) = omega (arith, entry-stands (d .0) (getD (entries row) (d .0) noEntry) r (d .2) .at-stage)
-
     checked-first : (r s : Refusal) → CheckedCondition row r → later s → Earlier s r → ⊥
     checked-first r s c d =
-        let lo = checked-stands r c in
+        let lo = checked-condition row r .0 c .1 in
         let hi = later-stands s d in
         not-earlier r s (omega arith) (λ q. absurd (omega arith)) (λ q p. absurd (omega arith))
 
     there : (r : Refusal) → CheckedCondition row r ⊎ later r → Condition row r
-    there r (inl (inl (q, c))) = subst (Condition row) (sym q) c
-    there r (inl (inr (k, h, inl (q, c)))) = subst (Condition row) (sym q) (h, c)
-    there r (inl (inr (k, h, inr (inl (q, c))))) = subst (Condition row) (sym q) (h, c)
-    there r (inl (inr (k, h, inr (inr (q, c))))) = subst (Condition row) (sym q) (h, c)
+    there r (inl c) = checked-condition row r .0 c .0
     there r (inr (inl (k, h, (q, c)))) = subst (Condition row) (sym q) (h, c)
     there r (inr (inr (k, h, (q, c)))) = subst (Condition row) (sym q) (h, c)
 
+    -- a condition of the first two stages is one of refusals 1 to 4, and there are two others
+    others : (r : Refusal) → 1 < stage r → Condition row r → later r
+    others TrainCount l c = absurd (omega arith)
+    others (ZeroDenominator k) l c = absurd (omega arith)
+    others (ZeroTime k) l c = absurd (omega arith)
+    others (DurationAbovePeriod k) l c = absurd (omega arith)
+    others (TickTooFine k) l (h, c) = inl (k, h, (refl, c))
+    others (TimeTooLong k) l (h, c) = inr (k, h, (refl, c))
+    others BufferTooShort l c = absurd c
+    others WrongMark l c = absurd c
+    others WrongVersion l c = absurd c
+    others WrongLength l c = absurd c
+    others (NotLowestTerms k) l c = absurd c
+    others NotATrain l c = absurd c
+    others NoEmptyPlace l c = absurd c
+    others (Collision k) l c = absurd c
+    others NoTrainThere l c = absurd c
+    others WrongCount l c = absurd c
+
     back : (r : Refusal) → Condition row r → CheckedCondition row r ⊎ later r
-    back TrainCount c = inl (inl (refl, c))
-    back (ZeroDenominator k) (h, c) = inl (inr (k, h, inl (refl, c)))
-    back (ZeroTime k) (h, c) = inl (inr (k, h, inr (inl (refl, c))))
-    back (DurationAbovePeriod k) (h, c) = inl (inr (k, h, inr (inr (refl, c))))
-    back (TickTooFine k) (h, c) = inr (inl (k, h, (refl, c)))
-    back (TimeTooLong k) (h, c) = inr (inr (k, h, (refl, c)))
-    back BufferTooShort c = absurd c
-    back WrongMark c = absurd c
-    back WrongVersion c = absurd c
-    back WrongLength c = absurd c
-    back (NotLowestTerms k) c = absurd c
-    back NotATrain c = absurd c
-    back NoEmptyPlace c = absurd c
-    back (Collision k) c = absurd c
-    back NoTrainThere c = absurd c
-    back WrongCount c = absurd c
+    back r c = go (decLe (stage r) 1)
+      where
+        go : Dec (stage r ≤ 1) → CheckedCondition row r ⊎ later r
+        go (yes l) = inl (checked-condition row r .1 (c, l))
+        go (no l) = inr (others r (omega arith) c)

@@ -49,3 +49,8 @@ earlier-total r s = stages (three (stage r) (stage s))
     stages (inl h) = inr (inl (inl h))
     stages (inr (inl e)) = places e (three (paper r .place) (paper s .place))
     stages (inr (inr h)) = inr (inr (inl h))
+
+-- what comes earlier is of no later stage
+pub earlier-stage : (r s : Refusal) → Earlier r s → stage r ≤ stage s
+earlier-stage r s (inl h) = omega arith
+earlier-stage r s (inr (e, h)) = omega arith

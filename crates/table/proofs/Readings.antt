@@ -10,7 +10,7 @@ use mathlib.Mathlib.Data.Bool.Basic.{eq-false-eq-not-eq-true}
 use native.Mathlib.Nat.{mul-pos}
 use native.Mathlib.Decide.{decLe}
 use native.Mathlib.Omega.{arith}
-use lib.ListN.{length, getD, take, List·getD-map}
+use lib.ListN.{length, getD, take, length-map}
 use lib.Seq.{take-all}
 use Rattle.refusal.specs.declared.Refusal.{Refusal}
 use Rattle.refusal.specs.declared.Refusal.the-variants.{TickTooFine, TimeTooLong}
@@ -28,15 +28,38 @@ use Rattle.table.specs.declared.Entry.{Entry}
 use Rattle.table.specs.declared.Outcome.{Outcome}
 use Rattle.table.specs.declared.Outcome.the-variants.{Passed, Refused}
 use Rattle.table.specs.declared.Reading.{Reading}
-use Rattle.table.specs.Row.{noEntry, entries, denominators, multiple, tick, whole, ticksOf, trainOf, trains}
+use Rattle.table.specs.Row.{capacity, noEntry, entries, denominators, multiple, tick, whole, ticksOf, trainOf, trains, ExactTrain}
 use Rattle.table.specs.Given.{Condition, stage, Given}
 use Rattle.table.specs.Answer.{orElse, checked, fine, short, refusal, noTrain, tableOf, refused, readAfter, reading}
 use Rattle.table.specs.Inside.{readTicks}
-use Rattle.table.proofs.Exactly.{Exact, exact-refused, exact-passed}
-use Rattle.table.proofs.Conditions.{Sound, AllSound, checked-sound, checked-whole, checked-exact}
+use Rattle.table.proofs.Entries.{entries-few}
+use Rattle.table.proofs.Order.{earlier-stage}
+use Rattle.table.proofs.Exactly.{Exact, exact-same, exact-refused, exact-passed}
+use Rattle.table.proofs.Conditions.{Sound, AllSound, checked-sound, checked-whole, checked-exact, checked-condition}
 use Rattle.table.proofs.Limits.{multiple-pos, ticks-at, WholeTimes, refusal-exact}
 
 -- ---- Core laws
+
+not-above : {m n : ℕ} → Dec (m ≤ n) → (n < m → ⊥) → m ≤ n
+not-above (yes h) f = h
+not-above (no h) f = absurd (f (omega arith))
+
+-- where no train passes the limit, L does not
+all-within : (es : List Entry) → ((i : ℕ) → i < length es → multiple (take (suc i) es) ≤ limit) → multiple es ≤ limit
+unfolding denominators commonMultiple
+all-within [] within = omega arith
+all-within (e ∷ es) within = subst (λ (fs : List Entry). multiple fs ≤ limit) (take-all (suc (length es)) (e ∷ es) (omega arith)) (within (length es) (omega arith))
+
+-- a time that is not 0 is not 0 ticks
+some-ticks : (k u v : ℕ) → k * u ≡ v → 0 < v → 1 ≤ k
+some-ticks zero u v e h = absurd (omega arith)
+some-ticks (suc k) u v e h = omega arith
+
+-- an element of a mapped list
+getD-map : {A B : Type 0} (f : A → B) (l : List A) (i : ℕ) (a : A) (b : B) → i < length l → getD (map f l) i b ≡ f (getD l i a)
+getD-map f [] i a b h = absurd (omega arith)
+getD-map f (x ∷ l) zero a b h = refl
+getD-map f (x ∷ l) (suc i) a b h = getD-map f l i a b (omega arith)
 
 -- the ways through the code's reading
 module _ (row : List ℕ) where
@@ -67,6 +90,33 @@ module _ (row : List ℕ) where
       ∙ sym (ap (λ (o : Outcome). readAfter (orElse o (short (tick (entries row)) (entries row))) (tableOf (tick (entries row)) (entries row))) f)
       ∙ rest e
 
+  -- ---- When a refusal is given
+
+  pub refused-exactly : (r : Refusal) → (refusal row ≡ Refused r) ↔ Given row r
+  refused-exactly r =
+      let is = exact-refused (refusal row) (Condition row) (refusal-exact row) r in
+      ((λ e. let g = is .0 e in record { holds = g .0; first = g .1 }), (λ g. is .1 (g .holds, g .first)))
+
+  pub passed-exactly : (refusal row ≡ Passed) ↔ ((r : Refusal) → Condition row r → ⊥)
+  passed-exactly = exact-passed (refusal row) (Condition row) (refusal-exact row)
+
+  -- refusals 1 to 4 in the words of the paper
+  checked-given : Exact (checked row) (λ r. Condition row r × (stage r ≤ 1))
+  checked-given = exact-same (checked row) _ _ (checked-condition row) (checked-exact row)
+
+  pub checked-exactly : (r : Refusal) → (checked row ≡ Refused r) ↔ (Given row r × (stage r ≤ 1))
+  checked-exactly r =
+      let is = exact-refused (checked row) _ checked-given r in (
+        (λ e.
+            let g = is .0 e in
+            (record { holds = g .0 .0; first = λ s early c. g .1 s early (c, omega (arith, earlier-stage s r early, g .0 .1)) }, g .0 .1)),
+        (λ g. is .1 ((g .0 .holds, g .1), λ s early c. g .0 .first s early (c .0))),
+      )
+
+  pub checked-passed : (checked row ≡ Passed) ↔ ((r : Refusal) → stage r ≤ 1 → Condition row r → ⊥)
+  checked-passed =
+      let is = exact-passed (checked row) _ checked-given in ((λ e r l c. is .0 e r (c, l)), (λ none. is .1 (λ r c. none r (c .1) (c .0))))
+
   -- ---- What a table is that it passes
 
   -- what passes all passes the first
@@ -78,11 +128,57 @@ module _ (row : List ℕ) where
       go Passed q e = q
       go (Refused r) q e = let z : _≡_ {A = ℕ} 0 1 = cc in absurd (omega arith)
 
--- Each time of an entry is so many ticks, with nothing lost.
-  pub sound-entries : refusal row ≡ Passed → AllSound (entries row)
-  sound-entries e = checked-sound row (passed-checked e)
+  pub passed-sound : refusal row ≡ Passed → AllSound (entries row)
+  passed-sound e = checked-sound row (passed-checked e)
+
+  pub trains-length : length (trains row) ≡ length (entries row)
+  unfolding trains
+  trains-length = length-map (entries row) (trainOf (tick (entries row)))
 
   -- the train at a position is the entry there, in ticks
   pub trains-at : (i : ℕ) → i < length (entries row) → getD (trains row) i noTrain ≡ trainOf (tick (entries row)) (getD (entries row) i noEntry)
   unfolding trains
-  trains-at i h = ?
+  trains-at i h = getD-map (trainOf (tick (entries row))) (entries row) i noEntry noTrain h
+
+  module _ (e : refusal row ≡ Passed) where
+    none : (r : Refusal) → Condition row r → ⊥
+    none = refusal-exact row .passed e
+
+    pub passed-limit : multiple (entries row) ≤ limit
+    passed-limit =
+        all-within (entries row) (λ i h. not-above (decLe (multiple (take (suc i) (entries row))) limit) (λ l. none (TickTooFine i) (h, l)))
+
+    pub passed-few : length (entries row) ≤ capacity
+    passed-few = entries-few row (checked-whole row (passed-checked e) .1)
+
+    module _ (i : ℕ) (h : i < length (entries row)) where
+      -- one time
+      exact-time : (f : Fraction) → ((k : ℕ) × (wholeTicks f (tick (entries row)) ≡ Whole k)) → IsTicks f (tick (entries row)) (ticksOf (tick (entries row)) f)
+      exact-time f (k, w) = ticks-exact f (tick (entries row)) (ticksOf (tick (entries row)) f) (w ∙ ap (λ t. Whole (whole t)) (sym w))
+
+      exact-entry : ExactTrain (tick (entries row)) (getD (entries row) i noEntry) (trainOf (tick (entries row)) (getD (entries row) i noEntry))
+      exact-entry =
+          let w = ticks-at (entries row) i (passed-sound e) h in
+          record { phase = exact-time _ (w .phase); period = exact-time _ (w .period); duration = exact-time _ (w .duration) }
+
+      pub passed-exact : ExactTrain (tick (entries row)) (getD (entries row) i noEntry) (getD (trains row) i noTrain)
+      passed-exact = subst (ExactTrain (tick (entries row)) (getD (entries row) i noEntry)) (sym (trains-at i h)) exact-entry
+
+      limits-entry : Limits (trainOf (tick (entries row)) (getD (entries row) i noEntry))
+      limits-entry =
+          let s = passed-sound e i h in
+          let x = exact-entry in
+          let l = multiple-pos (entries row) (passed-sound e) in
+          let few : (k : ℕ) → (maxTicks < k → ⊥) → k ≤ maxTicks = λ k f. not-above (decLe k maxTicks) f in
+          record {
+            strict =
+                record {
+                  some = some-ticks _ _ _ (x .duration) (mul-pos (s .some-duration) l);
+                  fits = not-above (decLe _ _) (λ lt. eq-false-eq-not-eq-true _ .1 (s .fits) (above-ticks _ _ (tick (entries row)) _ _ (s .duration) (s .period) (omega arith) l (x .duration) (x .period) .1 lt));
+                };
+            period = few _ (λ lt. none (TimeTooLong i) (h, inr (inl (_, x .period, lt))));
+            phase = few _ (λ lt. none (TimeTooLong i) (h, inl (_, x .phase, lt)));
+          }
+
+      pub passed-limits : Limits (getD (trains row) i noTrain)
+      passed-limits = subst Limits (sym (trains-at i h)) limits-entry

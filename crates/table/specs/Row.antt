@@ -12,12 +12,18 @@
 --     ticksOf tick time       how many ticks a time is
 --     trainOf tick e          a train in ticks
 --     trains row              the trains of a row in ticks of its own tick
-use Prim.Native.Nat.{ℕ, zero, suc, _+_, _*_, _/_}
+--     ExactTrain tick e t     train t is entry e in ticks, with nothing lost
+--     SameTime f h            two fractions stand for one time
+--     SameRow row row′        two rows that differ at most in the terms of their fractions
+use Prim.Native.Nat.{ℕ, zero, suc, _+_, _*_, _/_, _<_}
+use mathlib.Core.Path.{_≡_}
+use mathlib.Core.Logic.{_⊎_}
 use mathlib.Core.List.{List, [], _∷_, _++_, map}
 use lib.ListN.{length, getD, drop}
 use Rattle.fraction.specs.declared.Fraction.{Fraction}
 use Rattle.fraction.specs.declared.Ticks.{Ticks}
 use Rattle.fraction.specs.declared.Ticks.the-variants.{NotWhole, Whole}
+use Rattle.fraction.specs.Value.{SameValue, IsTicks}
 use Rattle.fraction.specs.Answer.{lowest, wholeTicks, commonMultiple}
 use Rattle.train.specs.declared.Train.{Train}
 use Rattle.table.specs.declared.Entry.{Entry}
@@ -89,3 +95,24 @@ trainOf tick e =
 -- The trains of a row in ticks.
 unfoldable pub trains : List ℕ → List Train
 trains row = map (trainOf (tick (entries row))) (entries row)
+
+-- The ticks of a train are its times, with nothing lost.
+pub record ExactTrain (tick : Fraction) (e : Entry) (t : Train) : Type 0 where
+  pub phase : IsTicks (e .phase) tick (t .phase)
+  pub period : IsTicks (e .period) tick (t .period)
+  pub duration : IsTicks (e .duration) tick (t .duration)
+
+-- The same fraction as it stands, or two that have denominators and are one number.
+abbrev pub SameTime : Fraction → Fraction → Type 0
+SameTime f h = (f ≡ h) ⊎ ((0 < f .denominator) × (0 < h .denominator) × SameValue f h)
+
+-- Two trains whose times are the same.
+pub record SameEntry (e f : Entry) : Type 0 where
+  pub phase : SameTime (e .phase) (f .phase)
+  pub period : SameTime (e .period) (f .period)
+  pub duration : SameTime (e .duration) (f .duration)
+
+-- Two rows of one length, the times of each train the same, over whatever denominators.
+pub record SameRow (row row′ : List ℕ) : Type 0 where
+  pub lengths : length row ≡ length row′
+  pub times : (i : ℕ) → i < length (entries row) → SameEntry (getD (entries row) i noEntry) (getD (entries row′) i noEntry)
