@@ -168,9 +168,10 @@ checked-exact row =
     (λ s. ⊎-elim (λ c early. not-earlier TrainCount TrainCount (omega arith) (λ q. omega arith) (λ q p. omega arith) (subst (λ (x : Refusal). Earlier x TrainCount) (c .0) early)) (trains-later s)))
   where
     ragged : (not (eqb (length row % numbers) 0) ≡ true) ↔ (numbers ∣ length row → ⊥)
-    ragged =
-        ((λ t d. eqb-false (length row % numbers) 0 (not-true _ t) (mod-eq-zero-of-dvd numbers d)),
-        (λ f. ap not (ne-eqb (length row % numbers) 0 (λ z. f (dvd-of-mod-eq-zero numbers z)))))
+    ragged = (
+      (λ t d. eqb-false (length row % numbers) 0 (not-true _ t) (mod-eq-zero-of-dvd numbers d)),
+      (λ f. ap not (ne-eqb (length row % numbers) 0 (λ z. f (dvd-of-mod-eq-zero numbers z)))),
+    )
 
     trains-later : (s : Refusal) → Some (entries row) EntryCondition s → Earlier s TrainCount → ⊥
     trains-later s w =

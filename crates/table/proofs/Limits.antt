@@ -106,9 +106,10 @@ fine-exact es sound =
 -- ---- Refusal 6
 
 many-is : (time tick : Fraction) → 0 < time .denominator → 0 < tick .numerator → ((k : ℕ) × (wholeTicks time tick ≡ Whole k)) → (tooMany (wholeTicks time tick) ≡ true) ↔ TooManyTicks tick time
-many-is time tick pm pa (k, e) =
-    ((λ t. (k, ticks-exact time tick k e, ltb-true maxTicks k (ap tooMany (sym e) ∙ t))),
-    (λ w. ap tooMany (ticks-found time tick (w .0) pm pa (w .1)) ∙ lt-ltb maxTicks (w .0) (w .2)))
+many-is time tick pm pa (k, e) = (
+  (λ t. (k, ticks-exact time tick k e, ltb-true maxTicks k (ap tooMany (sym e) ∙ t))),
+  (λ w. ap tooMany (ticks-found time tick (w .0) pm pa (w .1)) ∙ lt-ltb maxTicks (w .0) (w .2)),
+)
 
 abbrev LongCondition : Fraction → ℕ → Entry → Refusal → Type 0
 LongCondition tick i e r = (r ≡ TimeTooLong i) × TooLong tick e
