@@ -2,6 +2,7 @@
 --     capacity                the most trains of a table
 --     numbers                 the numbers of a train in a row
 --     longestRow              the numbers of the longest row
+--     recordLength            the bytes of a train in a stored table
 --     timeAt row at           the fraction whose numerator stands at an index
 --     firstEntry row          the phase, period and duration of the train at the head of a row
 --     entries row             the trains of a row as fractions, in their order
@@ -39,6 +40,10 @@ numbers = 6
 -- 384 numbers, for 64 trains.
 abbrev pub longestRow : ℕ
 longestRow = capacity * numbers
+
+-- 24 bytes to a train in a stored table, four to a number.
+abbrev pub recordLength : ℕ
+recordLength = 4 * numbers
 
 -- Numerator, then denominator.
 abbrev pub timeAt : List ℕ → ℕ → Fraction

@@ -11,7 +11,7 @@ ghost use lib.ListN.{length, getD};
 ghost use Rattle.fraction.specs.Answer.{wholeTicks, runningFrom, running};
 ghost use Rattle.fraction.specs.declared.Multiple.the-variants.{Within};
 ghost use Rattle.table.specs.declared.Outcome.the-variants.{Passed};
-ghost use Rattle.table.specs.Row.{longestRow, timeAt, noEntry, entries, denominatorsOf, denominators};
+ghost use Rattle.table.specs.Row.{capacity, numbers, longestRow, recordLength, timeAt, noEntry, entries, denominatorsOf, denominators};
 ghost use Rattle.table.specs.Answer.{entryCheck, checked, fine, refused, reading};
 ghost use Rattle.table.specs.Inside.{timed, trainTimed, readTicks};
 
@@ -32,7 +32,7 @@ pub enum Outcome {
 pub struct Table {
     pub tick: Fraction,
     pub count: usize,
-    pub trains: [Train; 64],
+    pub trains: [Train; Table::CAPACITY],
 }
 
 // The table of a row; after a refusal it has no train.
@@ -295,6 +295,7 @@ fn read_ticks(row: &[u32], tick: Fraction) -> Reading
 // The table of a row, or its refusal: 1; then train by train 2, 3 and 4; then 5 over the table; then 6.
 pub fn read(row: &[u32]) -> Reading
     ensures { λ r. ⌜ r ≡ reading (now (row .entry)) ⌝ }
+    ensures constants { λ _. do ⌜ ((← ⟦Table::CAPACITY⟧ .entry) ≡ capacity) × ((← ⟦Table::NUMBERS⟧ .entry) ≡ numbers) × ((← ⟦Table::LONGEST_ROW⟧ .entry) ≡ longestRow) × ((← ⟦Table::RECORD_LENGTH⟧ .entry) ≡ recordLength) ⌝ }
 {
     let checked = check(row);
     match checked {

@@ -1,6 +1,6 @@
 -- `read` meets its contract: the checks one after another, then the trains in ticks of 1/L.
 -- Assumes nothing.
-use mathlib.Core.Path.{sym, _∙_}
+use mathlib.Core.Path.{refl, sym, _∙_}
 use Rattle.table.proofs.Conditions.{checked-whole}
 use Rattle.table.proofs.Readings.{read-checked, read-fine, read-rest}
 use borrow.Author.Needs.{needs}
@@ -19,7 +19,7 @@ refused-requires c κs = search needs
 returns : tie.Need-returns
 returns c =
     let told = c .before .before in
-    c .refused .ensures ∙ read-checked _ _ (sym (told .before .before .check .ensures) ∙ told .checked .given .1)
+    (c .refused .ensures ∙ read-checked _ _ (sym (told .before .before .check .ensures) ∙ told .checked .given .1), (refl, refl, refl, refl))
 
 enum-told : tie.Need-enum-told
 enum-told c = search needs
@@ -38,9 +38,10 @@ returns-2 c =
     let told = c .before .before in
     let common = told .before .before in
     let passed = common .before in
-    c .refused2 .ensures
-    ∙ read-fine _ _ (sym (passed .before .before .check .ensures) ∙ passed .enum-told .given .1)
-    (sym (common .common-multiple .ensures .0) ∙ told .fine .given .1)
+    let is =
+    read-fine _ _ (sym (passed .before .before .check .ensures) ∙ passed .enum-told .given .1)
+    (sym (common .common-multiple .ensures .0) ∙ told .fine .given .1) in
+    (c .refused2 .ensures ∙ is, (refl, refl, refl, refl))
 
 enum-told-2 : tie.Need-enum-told-2
 enum-told-2 c = search needs
@@ -56,10 +57,12 @@ returns-3 c =
     let common = told .before .before in
     let passed = common .before in
     let fine = told .enum-told2 .given .1 in
+    let is =
     read-rest _ _ _ (sym (passed .before .before .check .ensures) ∙ passed .enum-told .given .1)
     (sym (common .common-multiple .ensures .0) ∙ fine)
     (common .common-multiple .ensures .1 fine)
-    (c .read-ticks .ensures)
+    (c .read-ticks .ensures) in
+    (is, (refl, refl, refl, refl))
 
 pub read-spec : {M : Type 1} → statement M
 read-spec =
