@@ -1,0 +1,2 @@
+-- The laws of judge. Promises gathers what specs/Promises.antt states; callers cite the others.
+pub mod Walk

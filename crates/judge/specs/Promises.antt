@@ -1,0 +1,2 @@
+-- What is proved of verdicts.
+pub record Promises : Type 0 where
