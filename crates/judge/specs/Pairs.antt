@@ -6,6 +6,7 @@
 --     PairOf n p              p is a pair of n trains, the smaller position first
 --     FirstPair ts p          p is the first pair that collides
 --     pairs n                 all pairs of n trains, in that order
+--     In p ps                 p is one of some pairs
 --     divisionsOf ts p        the division count of one pair
 --     total ts ps             the division counts of some pairs, added up
 use Prim.Native.Nat.{ℕ, zero, suc, _+_, _<_}
@@ -59,6 +60,11 @@ pairsFrom i (suc count) = pairsWith i (suc i) count ++ pairsFrom (suc i) count
 -- The pairs of n trains in the order (0,1), (0,2) .. (1,2) ..
 abbrev pub pairs : ℕ → List Places
 pairs n = pairsFrom 0 n
+
+-- One of some pairs.
+abbrev pub In : Places → List Places → Type 0
+In p [] = ⊥
+In p (q ∷ qs) = (p ≡ q) ⊎ In p qs
 
 -- The division count of one pair: the remainders that Euclid's method takes of its two periods, larger period first.
 abbrev pub divisionsOf : (ℕ → Train) → Places → ℕ

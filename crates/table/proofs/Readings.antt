@@ -182,3 +182,17 @@ module _ (row : List ℕ) where
 
       pub passed-limits : Limits (getD (trains row) i noTrain)
       passed-limits = subst Limits (sym (trains-at i h)) limits-entry
+
+  -- ---- The reading, for those who take it apart
+
+  pub reading-outcome : reading row .outcome ≡ refusal row
+  unfolding reading
+  reading-outcome = go (refusal row)
+    where
+      go : (o : Outcome) → readAfter o (tableOf (tick (entries row)) (entries row)) .outcome ≡ o
+      go Passed = refl
+      go (Refused r) = refl
+
+  pub reading-table : refusal row ≡ Passed → reading row .table ≡ tableOf (tick (entries row)) (entries row)
+  unfolding reading
+  reading-table e = ap (λ (o : Outcome). readAfter o (tableOf (tick (entries row)) (entries row)) .table) e
