@@ -2,3 +2,4 @@
 pub mod Walk
 pub mod Ordered
 pub mod Verdicts
+pub mod Meaning

@@ -6,7 +6,7 @@ use mathlib.Core.Path.{_≡_, refl, sym, ap, subst, fun-ext, _∙_}
 use mathlib.Core.Bool.{Bool, true, false, cond}
 use mathlib.Core.Logic.{_↔_, _⊎_, inl, inr, ⊎-elim}
 use mathlib.Core.List.{List, [], _∷_, _++_, map}
-use native.Mathlib.Nat.{add-zero}
+use native.Mathlib.Nat.{add-zero, add-assoc}
 use native.Mathlib.Omega.{arith}
 use lib.ListN.{length, getD, replicate}
 use Rattle.refusal.specs.declared.Refusal.{Refusal}
@@ -32,7 +32,7 @@ use Rattle.judge.specs.Pairs.{trainAt, Schedulable, Places, Before, Pair
 use Rattle.judge.specs.Answer.{tickOf, scan, found, judged, verdict}
 use Rattle.judge.specs.Inside.{Scannable}
 use Rattle.judge.proofs.Walk.{scan-free, scan-meets, pairs-few}
-use Rattle.judge.proofs.Ordered.{pairs-all, pairs-before}
+use Rattle.judge.proofs.Ordered.{in-right, pairs-all, pairs-before}
 
 -- ---- Core laws
 
@@ -58,6 +58,83 @@ module _ (row : List ℕ) where
       found (multiple (entries row)) (trainAt (trains row)) (scan (trainAt (trains row)) (pairs (length (trains row))) 0) ≡ verdict row
   unfolding verdict
   verdict-found e = sym (ap (λ (o : Outcome). judged o (multiple (entries row)) (trains row)) e)
+
+-- ---- What the walk has found
+
+-- A pair of trains is free.
+abbrev pub FreePair : (ℕ → Train) → Places → Type 0
+FreePair train p = free (train (p .first)) (train (p .second)) ≡ true
+
+-- all pairs are free, and their counts are added up
+pub scan-all-free : (train : ℕ → Train) (ps : List Places) (d e : ℕ) → scan train ps d ≡ Free e → ((p : Places) → In p ps → FreePair train p) × (e ≡ d + total train ps)
+unfolding scan total
+scan-all-free train [] d e q = ((λ p m. absurd m), same q ∙ sym (add-zero d))
+  where
+    same : Free d ≡ Free e → e ≡ d
+    same z = cc
+scan-all-free train (p ∷ ps) d e q = go (scan-all-free train ps (d + divisionsOf train p) e) (free (train (p .first)) (train (p .second))) refl
+  where
+    go :
+        (scan train ps (d + divisionsOf train p) ≡ Free e → ((r : Places) → In r ps → FreePair train r) × (e ≡ d + divisionsOf train p + total train ps)) →
+        (b : Bool) → free (train (p .first)) (train (p .second)) ≡ b →
+        ((r : Places) → In r (p ∷ ps) → FreePair train r) × (e ≡ d + (divisionsOf train p + total train ps))
+    go later true f =
+        let k = later (sym (scan-free train p ps d f) ∙ q) in
+        ((λ r. ⊎-elim (λ (same : r ≡ p). subst (FreePair train) (sym same) f) (k .0 r)), k .1 ∙ add-assoc d (divisionsOf train p) (total train ps))
+    go later false f =
+        let m = scan-meets train p ps d f in
+        let z : _≡_ {A = ℕ} 0 1 = cc in
+        absurd (omega arith)
+
+-- Some pairs up to and including the first that collides, with the count d before them.
+pub record FirstMeeting (train : ℕ → Train) (ps : List Places) (p : Places) (d e : ℕ) : Type 0 where
+  pub before : List Places
+  pub behind : List Places
+  pub in-order : ps ≡ before ++ p ∷ behind
+  pub all-free : (q : Places) → In q before → FreePair train q
+  pub meets : free (train (p .first)) (train (p .second)) ≡ false
+  pub sum : e ≡ d + total train (before ++ p ∷ [])
+
+pub scan-first : (train : ℕ → Train) (ps : List Places) (i j d e : ℕ) → scan train ps d ≡ Meets i j e → FirstMeeting train ps (record { first = i; second = j }) d e
+unfolding scan total
+scan-first train [] i j d e q = let z : _≡_ {A = ℕ} 0 1 = cc in absurd (omega arith)
+scan-first train (p ∷ ps) i j d e q = go (scan-first train ps i j (d + divisionsOf train p) e) (free (train (p .first)) (train (p .second))) refl
+  where
+    go :
+        (scan train ps (d + divisionsOf train p) ≡ Meets i j e → FirstMeeting train ps (record { first = i; second = j }) (d + divisionsOf train p) e) →
+        (b : Bool) → free (train (p .first)) (train (p .second)) ≡ b → FirstMeeting train (p ∷ ps) (record { first = i; second = j }) d e
+    go later true f =
+        let k = later (sym (scan-free train p ps d f) ∙ q) in
+        record {
+          before = p ∷ k .before;
+          behind = k .behind;
+          in-order = ap (λ (rs : List Places). p ∷ rs) (k .in-order);
+          all-free = λ r. ⊎-elim (λ (same : r ≡ p). subst (FreePair train) (sym same) f) (k .all-free r);
+          meets = k .meets;
+          sum = k .sum ∙ add-assoc d (divisionsOf train p) (total train (k .before ++ record { first = i; second = j } ∷ []));
+        }
+    go later false f =
+        let m : Meets (p .first) (p .second) (d + divisionsOf train p) ≡ Meets i j e = sym (scan-meets train p ps d f) ∙ q in
+        let a : p .first ≡ i = cc in
+        let b : p .second ≡ j = cc in
+        let c : e ≡ d + divisionsOf train p = cc in
+        let same : p ≡ record { first = i; second = j } = λ k. record { first = a k; second = b k } in
+        record {
+          before = [];
+          behind = ps;
+          in-order = ap (λ (r : Places). r ∷ ps) same;
+          all-free = λ r m. absurd m;
+          meets = subst (λ (r : Places). free (train (r .first)) (train (r .second)) ≡ false) same f;
+          sum = c ∙ ap (λ (r : Places). d + divisionsOf train r) same ∙ ap (λ (n : ℕ). d + n) (sym (add-zero _));
+        }
+
+-- the pair that the walk has found is one of the table
+meets-pair : (train : ℕ → Train) (n i j d e : ℕ) → scan train (pairs n) d ≡ Meets i j e → PairOf n (record { first = i; second = j })
+meets-pair train n i j d e q =
+    let f = scan-first train (pairs n) i j d e q in
+    pairs-all n _ .0 (subst (In _) (sym (f .in-order)) (in-right _ (f .before) _ (inl refl)))
+
+-- ---- The ways through the code
 
 -- what the reading of a row hands on to the walk
 module _ (row : List ℕ) (r : Reading) (is : r ≡ reading row) where
@@ -100,6 +177,13 @@ module _ (row : List ℕ) (r : Reading) (is : r ≡ reading row) where
         ap (λ (l : ℕ). v.Accepted (record { multiple = l; divisions = d })) multiple-is
         ∙ ap (found (multiple (entries row)) (trainAt (trains row))) (sym q ∙ f-is ∙ walk-is)
         ∙ verdict-found row passes
+
+    -- the positions that the walk has found are in the array
+    pub read-positions : (f : Found) (i j d : ℕ) → f ≡ scan (trainAt (r .table .trains)) (pairs (r .table .count)) 0 → f ≡ Meets i j d → (i < capacity) × (j < capacity)
+    read-positions f i j d f-is q =
+        let pair = meets-pair (trainAt (r .table .trains)) (r .table .count) i j 0 d (sym f-is ∙ q) in
+        let few = read-scannable .few in
+        (omega (arith, pair .0, pair .1), omega (arith, pair .1))
 
     pub read-meets :
         (f : Found) (i j d t : ℕ) → f ≡ scan (trainAt (r .table .trains)) (pairs (r .table .count)) 0 → f ≡ Meets i j d →

@@ -7,8 +7,9 @@
 --     FirstPair ts p          p is the first pair that collides
 --     pairs n                 all pairs of n trains, in that order
 --     In p ps                 p is one of some pairs
---     divisionsOf ts p        the division count of one pair
---     total ts ps             the division counts of some pairs, added up
+--     divisionsOf train p     the division count of one pair
+--     total train ps          the division counts of some pairs, added up
+--     SummedTo ts p d         d is the sum over the pairs in order up to and including p
 use Prim.Native.Nat.{ℕ, zero, suc, _+_, _<_}
 use mathlib.Core.Path.{_≡_}
 use mathlib.Core.Logic.{_⊎_}
@@ -74,3 +75,10 @@ divisionsOf train p = pair (train (p .first)) (train (p .second)) .divisions
 unfoldable pub total : (ℕ → Train) → List Places → ℕ
 total train [] = 0
 total train (p ∷ ps) = divisionsOf train p + total train ps
+
+-- The division count, summed over the pairs in order up to and including one.
+pub record SummedTo (ts : List Train) (p : Places) (d : ℕ) : Type 0 where
+  pub before : List Places
+  pub behind : List Places
+  pub in-order : pairs (length ts) ≡ before ++ p ∷ behind
+  pub sum : d ≡ total (trainAt ts) (before ++ p ∷ [])
