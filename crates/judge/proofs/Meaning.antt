@@ -37,7 +37,7 @@ use Rattle.judge.specs.Pairs.{trainAt, Schedulable, Places, Before, Pair
 use Rattle.judge.specs.Answer.{tickOf, scan, found, verdict}
 use Rattle.judge.proofs.Walk.{pairs-few}
 use Rattle.judge.proofs.Ordered.{pairs-all, pairs-before, in-left}
-use Rattle.judge.proofs.Verdicts.{verdict-refused, verdict-found, FreePair, scan-all-free, FirstMeeting, scan-first}
+use Rattle.judge.proofs.Verdicts.{verdict-refused, verdict-found, verdictRead, verdict-read, FreePair, scan-all-free, FirstMeeting, scan-first, meets-pair}
 
 -- ---- Core law
 
@@ -63,3 +63,94 @@ view row = outcomes (refusal row) refl
     outcomes : (o : Outcome) → refusal row ≡ o → View row
     outcomes Passed e = founds e (scan (trainAt (trains row)) (pairs (length (trains row))) 0) refl
     outcomes (Refused r) e = refused r e (sym (verdict-refused row r e))
+
+-- ---- Pairs of a table that passes
+
+module _ (row : List ℕ) where
+  abbrev at : ℕ → Train
+  at i = trainAt (trains row) i
+
+  limits : refusal row ≡ Passed → (i : ℕ) → i < length (trains row) → Limits (at i)
+  limits e i h = passed-limits row e i (omega (arith, trains-length row))
+
+  -- a pair that is free is apart, and one that is not collides
+  free-apart : refusal row ≡ Passed → (p : Places) → PairOf (length (trains row)) p → FreePair at p → Apart (at (p .first)) (at (p .second))
+  free-apart e p h f =
+      free-iff-apart _ _ (limits e (p .first) (omega (arith, h .0, h .1)) .strict) (limits e (p .second) (h .1) .strict) .0 f
+
+  not-free : refusal row ≡ Passed → (p : Places) → PairOf (length (trains row)) p → free (at (p .first)) (at (p .second)) ≡ false → Collide (at (p .first)) (at (p .second))
+  not-free e p h f =
+      collides-iff _ _ (limits e (p .first) (omega (arith, h .0, h .1)) .strict) (limits e (p .second) (h .1) .strict) .0 f
+
+  -- a table whose pairs are all free is schedulable
+  all-schedulable : refusal row ≡ Passed → ((p : Places) → In p (pairs (length (trains row))) → FreePair at p) → Schedulable (trains row)
+  all-schedulable e all t i j hi hj differ ci cj = go (decLe i j)
+    where
+      apart : (a b : ℕ) → a < b → b < length (trains row) → Claims (at a) t → Claims (at b) t → ⊥
+      apart a b lt h ca cb =
+          let p : Places = record { first = a; second = b } in
+          free-apart e p (lt, h) (all p (pairs-all (length (trains row)) p .1 (lt, h))) t (ca, cb)
+
+      go : Dec (i ≤ j) → ⊥
+      go (yes h) = ⊎-elim differ (λ (lt : i < j). apart i j lt hj ci cj) (eq-or-lt-of-le h)
+      go (no h) = apart j i (omega arith) hi cj ci
+
+  -- what the walk has found is the first pair that collides, at its earliest tick
+  first-pair : (i j d : ℕ) → refusal row ≡ Passed → scan at (pairs (length (trains row))) 0 ≡ Meets i j d → FirstPair (trains row) (record { first = i; second = j })
+  first-pair i j d e q =
+      let p : Places = record { first = i; second = j } in
+      let f = scan-first at (pairs (length (trains row))) i j 0 d q in
+      let pair = meets-pair at (length (trains row)) i j 0 d q in
+      record {
+        pair = pair;
+        collides = not-free e p pair (f .meets);
+        before = λ r h early. free-apart e r h (f .all-free r (pairs-before (length (trains row)) (f .before) (f .behind) p (f .in-order) r .1 (h, early)));
+      }
+
+  earliest-tick : (i j : ℕ) → refusal row ≡ Passed → FirstPair (trains row) (record { first = i; second = j }) → Least (Both (at i) (at j)) (tickOf (earliest (at i) (at j)))
+  earliest-tick i j e f =
+      let li = limits e i (omega (arith, f .pair .0, f .pair .1)) in
+      let lj = limits e j (f .pair .1) in
+      let w = earliest-exists (at i) (at j) li lj .1 (collides-iff (at i) (at j) (li .strict) (lj .strict) .1 (f .collides)) in
+      earliest-at (at i) (at j) li lj (tickOf (earliest (at i) (at j))) .0 (w .1 ∙ ap (λ c. At (tickOf c)) (sym (w .1)))
+
+  -- ---- The theorems
+
+  pub refuse-exactly : (r : Refusal) → (paper (verdict row) ≡ refuse (refusals.paper r .number) (refusals.paper r .place)) ↔ Given row r
+  refuse-exactly r = (there (view row), λ g. ap paper (sym (verdict-refused row r (refused-exactly row r .1 g))))
+    where
+      there : View row → paper (verdict row) ≡ refuse (refusals.paper r .number) (refusals.paper r .place) → Given row r
+      there (refused s e q) h =
+          let k : refuse (refusals.paper s .number) (refusals.paper s .place) ≡ refuse (refusals.paper r .number) (refusals.paper r .place) = ap paper (sym q) ∙ h in
+          let a : refusals.paper s .number ≡ refusals.paper r .number = cc in
+          let b : refusals.paper s .place ≡ refusals.paper r .place = cc in
+          refused-exactly row r .0 (e ∙ ap Refused (refusals-proved.promises .paper-tells s r (λ i. record { number = a i; place = b i })))
+      there (accepted d e f q) h = let k = ap paper (sym q) ∙ h in let z : _≡_ {A = ℕ} 0 1 = cc in absurd (omega arith)
+      there (meets i j d e f q) h = let k = ap paper (sym q) ∙ h in let z : _≡_ {A = ℕ} 0 1 = cc in absurd (omega arith)
+
+  pub refuse-only : (number train : ℕ) → paper (verdict row) ≡ refuse number train → (r : Refusal) × Given row r
+  refuse-only number train h = go (view row)
+    where
+      go : View row → (r : Refusal) × Given row r
+      go (refused r e q) = (r, refused-exactly row r .0 e)
+      go (accepted d e f q) = let k = ap paper (sym q) ∙ h in let z : _≡_ {A = ℕ} 0 1 = cc in absurd (omega arith)
+      go (meets i j d e f q) = let k = ap paper (sym q) ∙ h in let z : _≡_ {A = ℕ} 0 1 = cc in absurd (omega arith)
+
+  pub accept-schedulable : ((L d : ℕ) × (paper (verdict row) ≡ accept L d)) ↔ ((refusal row ≡ Passed) × Schedulable (trains row))
+  accept-schedulable = (λ w. there (view row) (w .2), λ h. back (view row) (h .0) (h .1))
+    where
+      there : View row → {L d : ℕ} → paper (verdict row) ≡ accept L d → (refusal row ≡ Passed) × Schedulable (trains row)
+      there (refused r e q) h = let k = ap paper (sym q) ∙ h in let z : _≡_ {A = ℕ} 0 1 = cc in absurd (omega arith)
+      there (accepted d e f q) h = (e, all-schedulable e (scan-all-free at (pairs (length (trains row))) 0 d f .0))
+      there (meets i j d e f q) h = let k = ap paper (sym q) ∙ h in let z : _≡_ {A = ℕ} 0 1 = cc in absurd (omega arith)
+
+      back : View row → refusal row ≡ Passed → Schedulable (trains row) → (L d : ℕ) × (paper (verdict row) ≡ accept L d)
+      back (refused r e q) p s = let k = sym p ∙ e in let z : _≡_ {A = ℕ} 0 1 = cc in absurd (omega arith)
+      back (accepted d e f q) p s = (multiple (entries row), d, ap paper q)
+      back (meets i j d e f q) p s =
+          let first = first-pair i j d e f in
+          let w = first .collides in
+          absurd (s (w .0) i j (omega (arith, first .pair .0, first .pair .1)) (first .pair .1) (λ same. omega (arith, first .pair .0)) (w .1 .0) (w .1 .1))
+
+  pub accept-exactly : refusal row ≡ Passed → ((L d : ℕ) × (paper (verdict row) ≡ accept L d)) ↔ Schedulable (trains row)
+  accept-exactly e = (λ w. accept-schedulable .0 w .1, λ s. accept-schedulable .1 (e, s))

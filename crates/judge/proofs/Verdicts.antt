@@ -129,7 +129,7 @@ scan-first train (p ∷ ps) i j d e q = go (scan-first train ps i j (d + divisio
         }
 
 -- the pair that the walk has found is one of the table
-meets-pair : (train : ℕ → Train) (n i j d e : ℕ) → scan train (pairs n) d ≡ Meets i j e → PairOf n (record { first = i; second = j })
+pub meets-pair : (train : ℕ → Train) (n i j d e : ℕ) → scan train (pairs n) d ≡ Meets i j e → PairOf n (record { first = i; second = j })
 meets-pair train n i j d e q =
     let f = scan-first train (pairs n) i j d e q in
     pairs-all n _ .0 (subst (In _) (sym (f .in-order)) (in-right _ (f .before) _ (inl refl)))
@@ -195,3 +195,23 @@ module _ (row : List ℕ) (r : Reading) (is : r ≡ reading row) where
         (λ k. v.Collide (record { first = i; second = j; tick = ticks k }) (record { multiple = multiple-is k; divisions = d }))
         ∙ ap (found (multiple (entries row)) (trainAt (trains row))) (sym q ∙ f-is ∙ walk-is)
         ∙ verdict-found row passes
+
+-- the verdict is one on the reading alone
+judgedTable : Outcome → Table → Verdict
+judgedTable Passed t = found (t .tick .denominator) (trainAt (t .trains)) (scan (trainAt (t .trains)) (pairs (t .count)) 0)
+judgedTable (Refused q) t = v.Refused q
+
+pub verdictRead : Reading → Verdict
+verdictRead r = judgedTable (r .outcome) (r .table)
+
+pub verdict-read : (row : List ℕ) → verdictRead (reading row) ≡ verdict row
+unfolding judgedTable verdictRead
+verdict-read row = go (reading row .outcome) refl
+  where
+    go : (o : Outcome) → reading row .outcome ≡ o → judgedTable (reading row .outcome) (reading row .table) ≡ verdict row
+    go Passed e =
+        ap (λ (o : Outcome). judgedTable o (reading row .table)) e
+        ∙ (λ k.
+        found (multiple-is row (reading row) refl e k) (trains-are row (reading row) refl e k) (walk-is row (reading row) refl e k))
+        ∙ verdict-found row (passes row (reading row) refl e)
+    go (Refused q) e = ap (λ (o : Outcome). judgedTable o (reading row .table)) e ∙ read-refused row (reading row) refl q e
