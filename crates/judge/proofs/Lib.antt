@@ -3,3 +3,4 @@ pub mod Walk
 pub mod Ordered
 pub mod Verdicts
 pub mod Meaning
+pub mod Promises

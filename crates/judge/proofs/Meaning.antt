@@ -11,6 +11,7 @@ use native.Mathlib.Nat.{eq-or-lt-of-le, zero-add}
 use native.Mathlib.Decide.{decLe}
 use native.Mathlib.Omega.{arith}
 use lib.ListN.{length, length-append}
+use lib.Seq.{append-snoc}
 use Rattle.refusal.specs.declared.Refusal.{Refusal}
 use Rattle.refusal.specs.Paper as refusals
 use Rattle.refusal.proofs.Promises as refusals-proved
@@ -30,13 +31,14 @@ use Rattle.table.proofs.Readings.{refused-exactly, trains-length, passed-few, p
 use Rattle.table.proofs.Terms.{reading-same}
 use Rattle.judge.specs.declared.Found.{Found}
 use Rattle.judge.specs.declared.Found.the-variants.{Free, Meets}
+use Rattle.judge.specs.declared.Meeting.{Meeting}
 use Rattle.judge.specs.declared.Verdict.{Verdict}
 use Rattle.judge.specs.declared.Verdict.the-variants as v
 use Rattle.judge.specs.Paper.{Shown, accept, collide, refuse, paper}
 use Rattle.judge.specs.Pairs.{trainAt, Schedulable, Places, Before, PairOf, FirstPair, pairs, In, divisionsOf, total, SummedTo}
 use Rattle.judge.specs.Answer.{tickOf, scan, found, verdict}
 use Rattle.judge.proofs.Walk.{pairs-few}
-use Rattle.judge.proofs.Ordered.{pairs-all, pairs-before, in-left}
+use Rattle.judge.proofs.Ordered.{pairs-all, pairs-before, before-total, in-left}
 use Rattle.judge.proofs.Verdicts.{verdict-refused, verdict-found, verdictRead, verdict-read, FreePair, scan-all-free, FirstMeeting, scan-first, meets-pair}
 
 -- ---- Core law
@@ -154,3 +156,121 @@ module _ (row : List ℕ) where
 
   pub accept-exactly : refusal row ≡ Passed → ((L d : ℕ) × (paper (verdict row) ≡ accept L d)) ↔ Schedulable (trains row)
   accept-exactly e = (λ w. accept-schedulable .0 w .1, λ s. accept-schedulable .1 (e, s))
+
+  -- there is one first pair
+  first-only : (p q : Places) → FirstPair (trains row) p → FirstPair (trains row) q → p ≡ q
+  first-only p q f g = go (before-total p q)
+    where
+      go : (p ≡ q) ⊎ (Before p q ⊎ Before q p) → p ≡ q
+      go (inl e) = e
+      go (inr (inl early)) = let w = f .collides in absurd (g .before p (f .pair) early (w .0) (w .1))
+      go (inr (inr early)) = let w = g .collides in absurd (f .before q (g .pair) early (w .0) (w .1))
+
+  -- What is shown of a collision.
+  abbrev Shows : Meeting → Type 0
+  Shows m =
+      FirstPair (trains row) (record { first = m .first; second = m .second }) × Least (Both (at (m .first)) (at (m .second))) (m .tick)
+
+  pub collide-exactly :
+      (i j t : ℕ) →
+      ((L d : ℕ) × (paper (verdict row) ≡ collide i j t L d))
+      ↔ ((refusal row ≡ Passed) × FirstPair (trains row) (record { first = i; second = j }) × Least (Both (at i) (at j)) t)
+  collide-exactly i j t = (λ w. there (view row) (w .2), λ h. back (view row) (h .0) (h .1) (h .2))
+    where
+      there :
+          View row → {L d : ℕ} → paper (verdict row) ≡ collide i j t L d →
+          (refusal row ≡ Passed) × FirstPair (trains row) (record { first = i; second = j }) × Least (Both (at i) (at j)) t
+      there (refused r e q) h = let k = ap paper (sym q) ∙ h in let z : _≡_ {A = ℕ} 0 1 = cc in absurd (omega arith)
+      there (accepted d e f q) h = let k = ap paper (sym q) ∙ h in let z : _≡_ {A = ℕ} 0 1 = cc in absurd (omega arith)
+      there (meets i′ j′ d e f q) h =
+          let k = ap paper (sym q) ∙ h in
+          let a : i′ ≡ i = cc in
+          let b : j′ ≡ j = cc in
+          let c : tickOf (earliest (at i′) (at j′)) ≡ t = cc in
+          let first = first-pair i′ j′ d e f in
+          let shows : Shows (record { first = i; second = j; tick = t }) =
+          subst Shows (λ n. record { first = a n; second = b n; tick = c n }) (first, earliest-tick i′ j′ e first) in
+          (e, shows .0, shows .1)
+
+      back :
+          View row → refusal row ≡ Passed → FirstPair (trains row) (record { first = i; second = j }) → Least (Both (at i) (at j)) t →
+          (L d : ℕ) × (paper (verdict row) ≡ collide i j t L d)
+      back (refused r e q) p first least = let k = sym p ∙ e in let z : _≡_ {A = ℕ} 0 1 = cc in absurd (omega arith)
+      back (accepted d e f q) p first least =
+          let w = first .collides in
+          let apart = scan-all-free at (pairs (length (trains row))) 0 d f .0 _ (pairs-all (length (trains row)) _ .1 (first .pair)) in
+          absurd (free-apart e _ (first .pair) apart (w .0) (w .1))
+      back (meets i′ j′ d e f q) p first least =
+          let same = first-only (record { first = i′; second = j′ }) (record { first = i; second = j }) (first-pair i′ j′ d e f) first in
+          let li = limits p i (omega (arith, first .pair .0, first .pair .1)) in
+          let lj = limits p j (first .pair .1) in
+          let ticks = ap tickOf (earliest-at (at i) (at j) li lj t .1 least) in
+          (multiple (entries row), d,
+          ap paper q
+          ∙ ap (λ (r : Places). collide (r .first) (r .second) (tickOf (earliest (at (r .first)) (at (r .second)))) (multiple (entries row)) d) same
+          ∙ ap (λ (n : ℕ). collide i j n (multiple (entries row)) d) ticks)
+
+  pub accept-figures :
+      (L d : ℕ) → paper (verdict row) ≡ accept L d → (L ≡ multiple (entries row)) × (d ≡ total at (pairs (length (trains row))))
+  accept-figures L d h = go (view row)
+    where
+      go : View row → (L ≡ multiple (entries row)) × (d ≡ total at (pairs (length (trains row))))
+      go (refused r e q) = let k = ap paper (sym q) ∙ h in let z : _≡_ {A = ℕ} 0 1 = cc in absurd (omega arith)
+      go (accepted n e f q) =
+          let k = ap paper (sym q) ∙ h in
+          let a : L ≡ multiple (entries row) = cc in
+          let b : d ≡ n = cc in
+          (a, b ∙ scan-all-free at (pairs (length (trains row))) 0 n f .1 ∙ zero-add _)
+      go (meets i j n e f q) = let k = ap paper (sym q) ∙ h in let z : _≡_ {A = ℕ} 0 1 = cc in absurd (omega arith)
+
+  pub collide-figures :
+      (i j t L d : ℕ) → paper (verdict row) ≡ collide i j t L d →
+      (L ≡ multiple (entries row)) × SummedTo (trains row) (record { first = i; second = j }) d
+  collide-figures i j t L d h = go (view row)
+    where
+      go : View row → (L ≡ multiple (entries row)) × SummedTo (trains row) (record { first = i; second = j }) d
+      go (refused r e q) = let k = ap paper (sym q) ∙ h in let z : _≡_ {A = ℕ} 0 1 = cc in absurd (omega arith)
+      go (accepted n e f q) = let k = ap paper (sym q) ∙ h in let z : _≡_ {A = ℕ} 0 1 = cc in absurd (omega arith)
+      go (meets i′ j′ n e f q) =
+          let k = ap paper (sym q) ∙ h in
+          let a : i′ ≡ i = cc in
+          let b : j′ ≡ j = cc in
+          let c : d ≡ n = cc in
+          let l : L ≡ multiple (entries row) = cc in
+          let m = scan-first at (pairs (length (trains row))) i′ j′ 0 n f in
+          let summed : SummedTo (trains row) (record { first = i′; second = j′ }) d =
+          record { before = m .before; behind = m .behind; in-order = m .in-order; sum = c ∙ m .sum ∙ zero-add _ } in
+          (l, subst (λ (p : Places). SummedTo (trains row) p d) (λ x. record { first = a x; second = b x }) summed)
+
+  -- ---- The bound of the division count
+
+  -- at most 33 a pair
+  total-few : refusal row ≡ Passed → (ps : List Places) → ((p : Places) → In p ps → PairOf (length (trains row)) p) → total at ps ≤ 33 * length ps
+  unfolding total
+  total-few e [] all = omega arith
+  total-few e (p ∷ ps) all =
+      let h = all p (inl refl) in
+      let one = pair-divisions (at (p .first)) (at (p .second)) (limits e (p .first) (omega (arith, h .0, h .1))) (limits e (p .second) (h .1)) in
+      let others = total-few e ps (λ q m. all q (inr m)) in
+      omega arith
+
+  few : refusal row ≡ Passed → length (pairs (length (trains row))) ≤ 2016
+  few e = pairs-few (length (trains row)) (omega (arith, trains-length row, passed-few row e))
+
+  pub accept-divisions : (L d : ℕ) → paper (verdict row) ≡ accept L d → d ≤ 66_528
+  accept-divisions L d h =
+      let e = accept-schedulable .0 (L, d, h) .0 in
+      omega (arith, accept-figures L d h .1, few e, total-few e (pairs (length (trains row))) (λ p m. pairs-all (length (trains row)) p .0 m))
+
+  pub collide-divisions : (i j t L d : ℕ) → paper (verdict row) ≡ collide i j t L d → d ≤ 66_528
+  collide-divisions i j t L d h =
+      let e = collide-exactly i j t .0 (L, d, h) .0 in
+      let p : Places = record { first = i; second = j } in
+      let s = collide-figures i j t L d h .1 in
+      let front : List Places = s .before ++ p ∷ [] in
+      let whole : pairs (length (trains row)) ≡ front ++ s .behind = s .in-order ∙ sym (append-snoc (s .before) p (s .behind)) in
+      let bound = total-few e front (λ q m. pairs-all (length (trains row)) q .0 (subst (In q) (sym whole) (in-left q front (s .behind) m))) in
+      omega (arith, s .sum, few e, bound, ap length whole, length-append front (s .behind))
+
+pub verdict-same : (row row′ : List ℕ) → SameRow row row′ → verdict row ≡ verdict row′
+verdict-same row row′ same = sym (verdict-read row) ∙ ap verdictRead (reading-same row row′ same) ∙ verdict-read row′

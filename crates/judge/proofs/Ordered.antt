@@ -6,6 +6,7 @@ use mathlib.Core.Path.{_≡_, refl, sym, ap, subst, _∙_}
 use mathlib.Core.Logic.{_↔_, _⊎_, inl, inr, ⊎-elim}
 use mathlib.Core.List.{List, [], _∷_, _++_}
 use native.Mathlib.Nat.{eq-or-lt-of-le}
+use native.Mathlib.Decide.{decLe}
 use native.Mathlib.Omega.{arith}
 use Rattle.judge.specs.Pairs.{Places, Before, PairOf, pairsWith, pairsFrom, pairs, In}
 
@@ -110,6 +111,22 @@ before-asym p q (inl h) (inl k) = omega arith
 before-asym p q (inl h) (inr (e, k)) = omega arith
 before-asym p q (inr (e, h)) (inl k) = omega arith
 before-asym p q (inr (e, h)) (inr (f, k)) = omega arith
+
+-- of two pairs one comes before the other, or they are one
+pub before-total : (p q : Places) → (p ≡ q) ⊎ (Before p q ⊎ Before q p)
+before-total p q = firsts (decLe (p .first) (q .first)) (decLe (q .first) (p .first))
+  where
+    seconds : p .first ≡ q .first → Dec (p .second ≤ q .second) → Dec (q .second ≤ p .second) → (p ≡ q) ⊎ (Before p q ⊎ Before q p)
+    seconds e (yes h) (yes k) =
+        let f : p .second ≡ q .second = omega arith in
+        inl (λ i. record { first = e i; second = f i })
+    seconds e (no h) k = inr (inr (inr (sym e, omega arith)))
+    seconds e (yes h) (no k) = inr (inl (inr (e, omega arith)))
+
+    firsts : Dec (p .first ≤ q .first) → Dec (q .first ≤ p .first) → (p ≡ q) ⊎ (Before p q ⊎ Before q p)
+    firsts (yes h) (yes k) = seconds (omega arith) (decLe (p .second) (q .second)) (decLe (q .second) (p .second))
+    firsts (no h) k = inr (inr (inl (omega arith)))
+    firsts (yes h) (no k) = inr (inl (inl (omega arith)))
 
 -- in a sorted list the pairs in front of p come before it, and p before those behind it
 sorted-front : (ps qs : List Places) (p : Places) → Sorted (ps ++ p ∷ qs) → (q : Places) → In q ps → Before q p
