@@ -204,11 +204,13 @@ module _ (row : List ℕ) where
           let same = first-only (record { first = i′; second = j′ }) (record { first = i; second = j }) (first-pair i′ j′ d e f) first in
           let li = limits p i (omega (arith, first .pair .0, first .pair .1)) in
           let lj = limits p j (first .pair .1) in
-          let ticks = ap tickOf (earliest-at (at i) (at j) li lj t .1 least) in
-          (multiple (entries row), d,
-          ap paper q
-          ∙ ap (λ (r : Places). collide (r .first) (r .second) (tickOf (earliest (at (r .first)) (at (r .second)))) (multiple (entries row)) d) same
-          ∙ ap (λ (n : ℕ). collide i j n (multiple (entries row)) d) ticks)
+          let ticks = ap tickOf (earliest-at (at i) (at j) li lj t .1 least) in (
+            multiple (entries row),
+            d,
+            ap paper q
+                ∙ ap (λ (r : Places). collide (r .first) (r .second) (tickOf (earliest (at (r .first)) (at (r .second)))) (multiple (entries row)) d) same
+                ∙ ap (λ (n : ℕ). collide i j n (multiple (entries row)) d) ticks,
+          )
 
   pub accept-figures :
       (L d : ℕ) → paper (verdict row) ≡ accept L d → (L ≡ multiple (entries row)) × (d ≡ total at (pairs (length (trains row))))

@@ -83,9 +83,10 @@ Sorted (p ∷ ps) = ((q : Places) → In q ps → Before p q) × Sorted ps
 sorted-both : (ps qs : List Places) → Sorted ps → Sorted qs → ((p q : Places) → In p ps → In q qs → Before p q) → Sorted (ps ++ qs)
 unfolding Sorted
 sorted-both [] qs sp sq order = sq
-sorted-both (p ∷ ps) qs sp sq order =
-    ((λ q m. ⊎-elim (sp .0 q) (order p q (inl refl)) (in-either q ps qs m)),
-    sorted-both ps qs (sp .1) sq (λ a b m. order a b (inr m)))
+sorted-both (p ∷ ps) qs sp sq order = (
+  (λ q m. ⊎-elim (sp .0 q) (order p q (inl refl)) (in-either q ps qs m)),
+  sorted-both ps qs (sp .1) sq (λ a b m. order a b (inr m)),
+)
 
 sorted-with : (i j count : ℕ) → Sorted (pairsWith i j count)
 unfolding Sorted pairsWith

@@ -1,0 +1,38 @@
+-- The starred rows of the paper's bench sheet, in its order.
+--     Line                    a table, and what the paper prints for it
+--     whole p P d             a train of whole milliseconds: phase, period, duration
+--     parts m p P d           a train whose times are all over the denominator m
+--     sheet                   the starred rows
+use Prim.Native.Nat.{ℕ}
+use mathlib.Core.List.{List, [], _∷_, _++_}
+use Rattle.judge.specs.Paper.{Shown, accept, collide, refuse}
+
+-- A table as a row, and what is printed for it.
+pub record Line : Type 0 where
+  pub row : List ℕ
+  pub shown : Shown
+
+-- A train whose times are all over one denominator.
+abbrev pub parts : (m phase period duration : ℕ) → List ℕ
+parts m phase period duration = phase ∷ m ∷ period ∷ m ∷ duration ∷ m ∷ []
+
+-- A train of whole milliseconds.
+abbrev pub whole : (phase period duration : ℕ) → List ℕ
+whole phase period duration = parts 1 phase period duration
+
+-- The bench sheet, its starred rows.
+abbrev pub sheet : List Line
+sheet =
+    record { row = []; shown = accept 1 0 }
+    ∷ record { row = whole 5 1 1; shown = accept 1 0 }
+    ∷ record { row = whole 0 8 2 ++ whole 3 12 1; shown = accept 1 2 }
+    ∷ record { row = whole 3 12 1 ++ whole 0 8 2; shown = accept 1 2 }
+    ∷ record { row = whole 0 8 2 ++ whole 1 12 1; shown = collide 0 1 1 1 2 }
+    ∷ record { row = whole 0 8 2 ++ whole 2 12 2; shown = accept 1 2 }
+    ∷ record { row = whole 0 8 2 ++ whole 3 12 2; shown = collide 0 1 16 1 2 }
+    ∷ record { row = whole 0 4 1 ++ whole 2 4 1 ++ whole 1 6 1; shown = accept 1 5 }
+    ∷ record { row = whole 0 5 1 ++ whole 1 7 1; shown = collide 0 1 15 1 3 }
+    ∷ record { row = whole 0 4 1 ++ whole 0 4 1; shown = collide 0 1 0 1 1 }
+    ∷ record { row = (0 ∷ 1 ∷ 36 ∷ 13 ∷ 12 ∷ 13 ∷ []) ++ parts 13 12 72 12; shown = accept 13 1 }
+    ∷ record { row = 0 ∷ 1 ∷ 3 ∷ 1 ∷ 10 ∷ 3 ∷ []; shown = refuse 4 0 }
+    ∷ []
