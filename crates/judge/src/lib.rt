@@ -49,10 +49,11 @@ fn scan(trains: [Train; Table::CAPACITY], count: usize) -> Found
     let mut divisions: u32 = 0;
     while second < count {
         let pair = train::compare(trains[first], trains[second]);
-        divisions += pair.divisions;
+        let counted = divisions + pair.divisions;
         if !pair.free {
-            return Found::Meets(first, second, divisions);
+            return Found::Meets(first, second, counted);
         }
+        divisions = counted;
         second += 1;
         if second == count {
             first += 1;

@@ -1,5 +1,5 @@
 -- The laws of the checks: the ways through refusals 2, 3 and 4 of one train, and the first refusal of some trains.
--- Core: the ways of `entryCheck`, first-here, first-on. The rest follows from these.
+-- Core: the ways of `entryCheck`, first-here, first-on, first-end. The rest follows from these.
 -- Assumes nothing.
 use Prim.Native.Nat.{ℕ, suc, _+_, _%_, _<_, _≤_}
 use mathlib.Core.Path.{_≡_, refl, sym, ap, _∙_}
@@ -7,6 +7,7 @@ use mathlib.Core.Bool.{Bool, true, false}
 use mathlib.Core.List.{List, [], _∷_}
 use native.Mathlib.Numerals.{add-one}
 use native.Mathlib.Omega.{arith}
+use lib.Dec.{eqb}
 use lib.ListN.{length, getD, drop, drop-of-length-le}
 use lib.Seq.{drop-cons}
 use borrow.Author.Tests.{lt-ltb, le-ltb, eq-eqb, ne-eqb}
@@ -17,7 +18,7 @@ use Rattle.table.specs.declared.Entry.{Entry}
 use Rattle.table.specs.declared.Outcome.{Outcome}
 use Rattle.table.specs.declared.Outcome.the-variants.{Passed, Refused}
 use Rattle.table.specs.Row.{numbers, longestRow, noEntry, entries}
-use Rattle.table.specs.Answer.{orElse, firstRefusal, entryCheck, checked}
+use Rattle.table.specs.Answer.{test, orElse, noDenominator, noTime, firstRefusal, entryCheck, checked}
 
 -- ---- Core laws
 
@@ -25,48 +26,51 @@ use Rattle.table.specs.Answer.{orElse, firstRefusal, entryCheck, checked
 pub refused-not-passed : (r : Refusal) → Refused r ≡ Passed → ⊥
 refused-not-passed r e = let z : _≡_ {A = ℕ} 0 1 = cc in omega arith
 
--- a check behind which nothing follows
-pub or-else-passed : (o : Outcome) → orElse o Passed ≡ o
-or-else-passed Passed = refl
-or-else-passed (Refused r) = refl
+-- the ways through the conditions of 2 and 3
+module _ (e : Entry) where
+  pub denominator-phase : e .phase .denominator ≡ 0 → true ≡ noDenominator e
+  unfolding noDenominator
+  denominator-phase h = simp (eq-eqb (e .phase .denominator) 0 h)
 
--- the ways through the check of one train, each after those before it
-module _ (i : ℕ) (e : Entry) where
-  pub entry-phase : e .phase .denominator ≡ 0 → Refused (ZeroDenominator i) ≡ entryCheck i e
-  unfolding entryCheck
-  entry-phase h = simp (eq-eqb _ _ h)
+  pub denominator-period : (e .phase .denominator ≡ 0 → ⊥) → e .period .denominator ≡ 0 → true ≡ noDenominator e
+  unfolding noDenominator
+  denominator-period p h = simp (ne-eqb (e .phase .denominator) 0 p, eq-eqb (e .period .denominator) 0 h)
 
-  module _ (phase : e .phase .denominator ≡ 0 → ⊥) where
-    pub entry-period : e .period .denominator ≡ 0 → Refused (ZeroDenominator i) ≡ entryCheck i e
-    unfolding entryCheck
-    entry-period h = simp (ne-eqb _ _ phase, eq-eqb _ _ h)
+  pub denominator-duration : (e .phase .denominator ≡ 0 → ⊥) → (e .period .denominator ≡ 0 → ⊥) → eqb (e .duration .denominator) 0 ≡ noDenominator e
+  unfolding noDenominator
+  denominator-duration p q = simp (ne-eqb (e .phase .denominator) 0 p, ne-eqb (e .period .denominator) 0 q)
 
-    module _ (period : e .period .denominator ≡ 0 → ⊥) where
-      pub entry-duration : e .duration .denominator ≡ 0 → Refused (ZeroDenominator i) ≡ entryCheck i e
-      unfolding entryCheck
-      entry-duration h = simp (ne-eqb _ _ phase, ne-eqb _ _ period, eq-eqb _ _ h)
+  pub time-period : e .period .numerator ≡ 0 → true ≡ noTime e
+  unfolding noTime
+  time-period h = simp (eq-eqb (e .period .numerator) 0 h)
 
-      module _ (duration : e .duration .denominator ≡ 0 → ⊥) where
-        pub entry-no-period : e .period .numerator ≡ 0 → Refused (ZeroTime i) ≡ entryCheck i e
-        unfolding entryCheck
-        entry-no-period h = simp (ne-eqb _ _ phase, ne-eqb _ _ period, ne-eqb _ _ duration, eq-eqb _ _ h)
+  pub time-duration : (e .period .numerator ≡ 0 → ⊥) → eqb (e .duration .numerator) 0 ≡ noTime e
+  unfolding noTime
+  time-duration q = simp (ne-eqb (e .period .numerator) 0 q)
 
-        module _ (some-period : e .period .numerator ≡ 0 → ⊥) where
-          pub entry-no-duration : e .duration .numerator ≡ 0 → Refused (ZeroTime i) ≡ entryCheck i e
-          unfolding entryCheck
-          entry-no-duration h =
-              simp (ne-eqb _ _ phase, ne-eqb _ _ period, ne-eqb _ _ duration, ne-eqb _ _ some-period, eq-eqb _ _ h)
+-- the check of one train, from its three tests
+chain : ℕ → (d t a : Bool) → Outcome
+chain i d t a = orElse (test d (ZeroDenominator i)) (orElse (test t (ZeroTime i)) (test a (DurationAbovePeriod i)))
 
-          module _ (some-duration : e .duration .numerator ≡ 0 → ⊥) where
-            pub entry-above : (b : Bool) → b ≡ above (e .duration) (e .period) → b ≡ true → Refused (DurationAbovePeriod i) ≡ entryCheck i e
-            unfolding entryCheck
-            entry-above b is h =
-                simp (ne-eqb _ _ phase, ne-eqb _ _ period, ne-eqb _ _ duration, ne-eqb _ _ some-period, ne-eqb _ _ some-duration, sym is ∙ h)
+-- the ways through it, each after those before it
+module _ (i : ℕ) (e : Entry) (d : Bool) (d-is : d ≡ noDenominator e) where
+  pub entry-denominator : d ≡ true → Refused (ZeroDenominator i) ≡ entryCheck i e
+  unfolding chain entryCheck
+  entry-denominator h = ap (λ (x : Bool). chain i x (noTime e) (above (e .duration) (e .period))) (sym h ∙ d-is)
 
-            pub entry-passes : (b : Bool) → b ≡ above (e .duration) (e .period) → b ≡ false → Passed ≡ entryCheck i e
-            unfolding entryCheck
-            entry-passes b is h =
-                simp (ne-eqb _ _ phase, ne-eqb _ _ period, ne-eqb _ _ duration, ne-eqb _ _ some-period, ne-eqb _ _ some-duration, sym is ∙ h)
+  module _ (d-not : d ≡ false) (t : Bool) (t-is : t ≡ noTime e) where
+    pub entry-time : t ≡ true → Refused (ZeroTime i) ≡ entryCheck i e
+    unfolding chain entryCheck
+    entry-time h = λ k. chain i ((sym d-not ∙ d-is) k) ((sym h ∙ t-is) k) (above (e .duration) (e .period))
+
+    module _ (t-not : t ≡ false) (a : Bool) (a-is : a ≡ above (e .duration) (e .period)) where
+      pub entry-above : a ≡ true → Refused (DurationAbovePeriod i) ≡ entryCheck i e
+      unfolding chain entryCheck
+      entry-above h = λ k. chain i ((sym d-not ∙ d-is) k) ((sym t-not ∙ t-is) k) ((sym h ∙ a-is) k)
+
+      pub entry-passes : a ≡ false → Passed ≡ entryCheck i e
+      unfolding chain entryCheck
+      entry-passes h = λ k. chain i ((sym d-not ∙ d-is) k) ((sym t-not ∙ t-is) k) ((sym h ∙ a-is) k)
 
 -- the first refusal is that of the first train, or else of the others
 module _ (check : ℕ → Entry → Outcome) (es : List Entry) where

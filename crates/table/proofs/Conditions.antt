@@ -3,7 +3,7 @@
 -- Assumes nothing.
 use Prim.Native.Nat.{ℕ, zero, suc, _+_, _%_, _<_, _≤_, _∣_}
 use mathlib.Core.Path.{_≡_, refl, sym, ap, subst, _∙_}
-use mathlib.Core.Bool.{Bool, true, false, not}
+use mathlib.Core.Bool.{Bool, true, false, not, _||_}
 use mathlib.Core.Logic.{_↔_, _⊎_, inl, inr, ⊎-elim}
 use mathlib.Core.List.{List, [], _∷_, _++_}
 use mathlib.Mathlib.Data.Bool.Basic.{eq-false-eq-not-eq-true}
@@ -22,9 +22,9 @@ use Rattle.table.specs.declared.Outcome.{Outcome}
 use Rattle.table.specs.declared.Outcome.the-variants.{Passed, Refused}
 use Rattle.table.specs.Row.{numbers, longestRow, noEntry, entries, multiple, tick}
 use Rattle.table.specs.Given.{NoDenominator, NoTime, TooLong, Condition, stage, Earlier, Given}
-use Rattle.table.specs.Answer.{test, orElse, firstRefusal, entryCheck, checked, fineCheck, fine, longCheck, short, refusal}
+use Rattle.table.specs.Answer.{test, orElse, firstRefusal, noDenominator, noTime, entryCheck, checked, fineCheck, fine, longCheck, short, refusal}
 use Rattle.table.proofs.Order.{not-earlier}
-use Rattle.table.proofs.Exactly.{Exact, test-exact, or-else-exact, exact-same, exact-refused, exact-passed, first-exact}
+use Rattle.table.proofs.Exactly.{Exact, false-not-true, test-exact, or-else-exact, exact-same, exact-refused, exact-passed, first-exact}
 
 -- ---- Where a refusal stands in the order
 
@@ -95,52 +95,25 @@ EntryCondition i e r =
     ⊎ (((r ≡ ZeroTime i) × NoTime e)
     ⊎ ((r ≡ DurationAbovePeriod i) × (above (e .duration) (e .period) ≡ true)))
 
+-- one condition or another
+pub or-is : {P Q : Type 0} (b c : Bool) → (b ≡ true) ↔ P → (c ≡ true) ↔ Q → ((b || c) ≡ true) ↔ (P ⊎ Q)
+or-is true c p q = ((λ t. inl (p .0 refl)), (λ w. refl))
+or-is false c p q = ((λ t. inr (q .0 t)), ⊎-elim (λ w. absurd (false-not-true (p .1 w))) (q .1))
+
 entry-exact : (i : ℕ) (e : Entry) → Exact (entryCheck i e) (EntryCondition i e)
-unfolding entryCheck
+unfolding entryCheck noDenominator noTime
 entry-exact i e =
-    let two : (k : ℕ) → k ≤ 2 → Stands 1 i k (ZeroDenominator i) = λ k h. record { at-stage = refl; at-train = refl; at-number = h } in
-    let three : (k : ℕ) → k ≤ 3 → Stands 1 i k (ZeroTime i) = λ k h. record { at-stage = refl; at-train = refl; at-number = h } in
-    let four : (k : ℕ) → k ≤ 4 → Stands 1 i k (DurationAbovePeriod i) = λ k h. record { at-stage = refl; at-train = refl; at-number = h } in
-    let a : (k : ℕ) → k ≤ 2 → (P : Type 0) → AllStand 1 i k (λ s. (s ≡ ZeroDenominator i) × P) = λ k h P. stands-test (ZeroDenominator i) P 1 i k (two k h) in
-    let b : (k : ℕ) → k ≤ 3 → (P : Type 0) → AllStand 1 i k (λ s. (s ≡ ZeroTime i) × P) = λ k h P. stands-test (ZeroTime i) P 1 i k (three k h) in
-    let c : (k : ℕ) → k ≤ 4 → (P : Type 0) → AllStand 1 i k (λ s. (s ≡ DurationAbovePeriod i) × P) = λ k h P. stands-test (DurationAbovePeriod i) P 1 i k (four k h) in
-    exact-same _ _ _ (λ r. (there r, back r))
-    (then-exact _ _ _ (eqb-is _ _) _ _
-    (then-exact _ _ _ (eqb-is _ _) _ _
-    (then-exact _ _ _ (eqb-is _ _) _ _
-    (then-exact _ _ _ (eqb-is _ _) _ _
-    (then-exact _ _ _ (eqb-is _ _) _ _
+    let three : (k : ℕ) → k ≤ 3 → (P : Type 0) → AllStand 1 i k (λ s. (s ≡ ZeroTime i) × P) =
+    λ k h P. stands-test (ZeroTime i) P 1 i k (record { at-stage = refl; at-train = refl; at-number = h }) in
+    let four : (k : ℕ) → k ≤ 4 → (P : Type 0) → AllStand 1 i k (λ s. (s ≡ DurationAbovePeriod i) × P) =
+    λ k h P. stands-test (DurationAbovePeriod i) P 1 i k (record { at-stage = refl; at-train = refl; at-number = h }) in
+    then-exact _ _ (NoDenominator e)
+    (or-is _ _ (eqb-is (e .phase .denominator) 0) (or-is _ _ (eqb-is (e .period .denominator) 0) (eqb-is (e .duration .denominator) 0)))
+    _ _
+    (then-exact _ _ (NoTime e) (or-is _ _ (eqb-is (e .period .numerator) 0) (eqb-is (e .duration .numerator) 0)) _ _
     (test-exact _ _ _ ((λ t. t), (λ t. t)))
-    (c 3 (omega arith) _))
-    (λ s. ⊎-elim (b 3 (omega arith) _ s) (c 3 (omega arith) _ s)))
-    (λ s. ⊎-elim (b 2 (omega arith) _ s) (⊎-elim (b 2 (omega arith) _ s) (c 2 (omega arith) _ s))))
-    (λ s. ⊎-elim (a 2 (omega arith) _ s) (⊎-elim (b 2 (omega arith) _ s) (⊎-elim (b 2 (omega arith) _ s) (c 2 (omega arith) _ s)))))
-    (λ s. ⊎-elim (a 2 (omega arith) _ s) (⊎-elim (a 2 (omega arith) _ s) (⊎-elim (b 2 (omega arith) _ s) (⊎-elim (b 2 (omega arith) _ s) (c 2 (omega arith) _ s))))))
-  where
-    Six : Refusal → Type 0
-    Six r =
-        ((r ≡ ZeroDenominator i) × (e .phase .denominator ≡ 0))
-        ⊎ (((r ≡ ZeroDenominator i) × (e .period .denominator ≡ 0))
-        ⊎ (((r ≡ ZeroDenominator i) × (e .duration .denominator ≡ 0))
-        ⊎ (((r ≡ ZeroTime i) × (e .period .numerator ≡ 0))
-        ⊎ (((r ≡ ZeroTime i) × (e .duration .numerator ≡ 0))
-        ⊎ ((r ≡ DurationAbovePeriod i) × (above (e .duration) (e .period) ≡ true))))))
-
-    there : (r : Refusal) → Six r → EntryCondition i e r
-    there r (inl (q, z)) = inl (q, inl z)
-    there r (inr (inl (q, z))) = inl (q, inr (inl z))
-    there r (inr (inr (inl (q, z)))) = inl (q, inr (inr z))
-    there r (inr (inr (inr (inl (q, z))))) = inr (inl (q, inl z))
-    there r (inr (inr (inr (inr (inl (q, z)))))) = inr (inl (q, inr z))
-    there r (inr (inr (inr (inr (inr c))))) = inr (inr c)
-
-    back : (r : Refusal) → EntryCondition i e r → Six r
-    back r (inl (q, inl z)) = inl (q, z)
-    back r (inl (q, inr (inl z))) = inr (inl (q, z))
-    back r (inl (q, inr (inr z))) = inr (inr (inl (q, z)))
-    back r (inr (inl (q, inl z))) = inr (inr (inr (inl (q, z))))
-    back r (inr (inl (q, inr z))) = inr (inr (inr (inr (inl (q, z)))))
-    back r (inr (inr c)) = inr (inr (inr (inr (inr c))))
+    (four 3 (omega arith) _))
+    (λ s. ⊎-elim (three 2 (omega arith) _ s) (four 2 (omega arith) _ s))
 
 pub entry-stands : (i : ℕ) (e : Entry) → AllStand 1 i 0 (EntryCondition i e)
 entry-stands i e s =

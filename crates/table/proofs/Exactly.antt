@@ -30,7 +30,7 @@ pub record Exact (o : Outcome) (C : Refusal → Type 0) : Type 0 where
 refused-one : {r s : Refusal} → Refused r ≡ Refused s → r ≡ s
 refused-one e = cc
 
-false-not-true : _≡_ {A = Bool} false true → ⊥
+pub false-not-true : _≡_ {A = Bool} false true → ⊥
 false-not-true e = let z : _≡_ {A = ℕ} 0 1 = cc in omega arith
 
 -- one test

@@ -29,10 +29,10 @@ use Rattle.table.specs.declared.Outcome.{Outcome}
 use Rattle.table.specs.declared.Outcome.the-variants.{Passed, Refused}
 use Rattle.table.specs.Row.{noEntry, entries, denominatorsOf, denominators, multiple, tick}
 use Rattle.table.specs.Given.{TooManyTicks, TooLong, Condition, stage, Earlier}
-use Rattle.table.specs.Answer.{test, isAbove, fineCheck, fine, tooMany, longCheck, short, refusal, checked}
+use Rattle.table.specs.Answer.{test, isAbove, fineCheck, fine, tooMany, tooLong, longCheck, short, refusal, checked}
 use Rattle.table.proofs.Order.{not-earlier}
 use Rattle.table.proofs.Exactly.{Exact, test-exact, or-else-exact, exact-same}
-use Rattle.table.proofs.Conditions.{Stands, AllStand, stands-test, then-exact, trains-exact, Some, CheckedCondition, checked-exact, checked-condition, Sound, AllSound, checked-sound}
+use Rattle.table.proofs.Conditions.{Stands, AllStand, stands-test, or-is, trains-exact, Some, CheckedCondition, checked-exact, checked-condition, Sound, AllSound, checked-sound}
 
 -- ---- Core laws
 
@@ -118,31 +118,11 @@ long-stands : (tick : Fraction) (i : ℕ) (e : Entry) → AllStand 3 i 0 (LongCo
 long-stands tick i e = stands-test (TimeTooLong i) _ 3 i 0 (record { at-stage = refl; at-train = refl; at-number = omega arith })
 
 long-one : (tick : Fraction) (i : ℕ) (e : Entry) → 0 < tick .numerator → Sound e → WholeTimes tick e → Exact (longCheck tick i e) (LongCondition tick i e)
-unfolding longCheck
+unfolding longCheck tooLong
 long-one tick i e pa s w =
-    let six : Stands 3 i 6 (TimeTooLong i) = record { at-stage = refl; at-train = refl; at-number = omega arith } in
-    let a : (P : Type 0) → AllStand 3 i 6 (λ r. (r ≡ TimeTooLong i) × P) = λ P. stands-test (TimeTooLong i) P 3 i 6 six in
-    exact-same _ _ _ (λ r. (there r, back r))
-    (then-exact _ _ _ (many-is (e .phase) tick (s .phase) pa (w .phase)) _ _
-    (then-exact _ _ _ (many-is (e .period) tick (s .period) pa (w .period)) _ _
-    (test-exact _ _ _ (many-is (e .duration) tick (s .duration) pa (w .duration)))
-    (a _))
-    (λ r. ⊎-elim (a _ r) (a _ r)))
-  where
-    Three : Refusal → Type 0
-    Three r =
-        ((r ≡ TimeTooLong i) × TooManyTicks tick (e .phase))
-        ⊎ (((r ≡ TimeTooLong i) × TooManyTicks tick (e .period)) ⊎ ((r ≡ TimeTooLong i) × TooManyTicks tick (e .duration)))
-
-    there : (r : Refusal) → Three r → LongCondition tick i e r
-    there r (inl (q, c)) = (q, inl c)
-    there r (inr (inl (q, c))) = (q, inr (inl c))
-    there r (inr (inr (q, c))) = (q, inr (inr c))
-
-    back : (r : Refusal) → LongCondition tick i e r → Three r
-    back r (q, inl c) = inl (q, c)
-    back r (q, inr (inl c)) = inr (inl (q, c))
-    back r (q, inr (inr c)) = inr (inr (q, c))
+    test-exact _ (TimeTooLong i) (TooLong tick e)
+    (or-is _ _ (many-is (e .phase) tick (s .phase) pa (w .phase))
+    (or-is _ _ (many-is (e .period) tick (s .period) pa (w .period)) (many-is (e .duration) tick (s .duration) pa (w .duration))))
 
 long-exact : (es : List Entry) → AllSound es → Exact (short (tick es) es) (Some es (LongCondition (tick es)))
 long-exact es sound =

@@ -3,7 +3,7 @@
 -- Assumes nothing.
 use Prim.Native.Nat.{ℕ, zero, suc, _*_, _/_, _%_, _<_, _≤_}
 use mathlib.Core.Path.{_≡_, refl, sym, ap, subst, fun-ext, _∙_}
-use mathlib.Core.Bool.{Bool, true, false, not}
+use mathlib.Core.Bool.{Bool, true, false, not, _||_}
 use mathlib.Core.Logic.{_⊎_, inl, inr}
 use mathlib.Core.List.{List, [], _∷_, _++_, map}
 use native.Mathlib.Nat.{mul-pos}
@@ -24,8 +24,9 @@ use Rattle.table.specs.declared.Entry.{Entry}
 use Rattle.table.specs.declared.Outcome.{Outcome}
 use Rattle.table.specs.declared.Reading.{Reading}
 use Rattle.table.specs.Row.{numbers, longestRow, noEntry, entries, denominatorsOf, denominators, tick, trainOf, SameTime, SameEntry, SameRow}
-use Rattle.table.specs.Answer.{test, orElse, firstRefusal, entryCheck, checked, isAbove, fineCheck, fine, longCheck, short, refusal, filled, tableOf, readAfter, reading}
+use Rattle.table.specs.Answer.{test, orElse, firstRefusal, noDenominator, noTime, entryCheck, checked, isAbove, fineCheck, fine, tooLong, longCheck, short, refusal, filled, tableOf, readAfter, reading}
 use Rattle.table.proofs.Entries.{entries-length}
+use Rattle.table.proofs.Exactly.{false-not-true}
 
 -- ---- Lowest terms
 
@@ -89,33 +90,44 @@ above-lowest f h ef eh =
     positive zero z = absurd (z refl)
     positive (suc n) z = omega arith
 
+no-denominator-lowest : (e : Entry) → noDenominator (lowestEntry e) ≡ noDenominator e
+unfolding noDenominator
+no-denominator-lowest e = rw (denominator-zero (e .phase), denominator-zero (e .period), denominator-zero (e .duration))
+
+no-time-lowest : (e : Entry) → noTime (lowestEntry e) ≡ noTime e
+unfolding noTime
+no-time-lowest e = rw (numerator-zero (e .period), numerator-zero (e .duration))
+
+-- of two conditions neither holds
+neither : (b c : Bool) → (b || c) ≡ false → (b ≡ false) × (c ≡ false)
+neither false c e = (refl, e)
+neither true c e = absurd (false-not-true (sym e))
+
+above-lowest-entry : (e : Entry) → noDenominator e ≡ false → above (lowest (e .duration)) (lowest (e .period)) ≡ above (e .duration) (e .period)
+unfolding noDenominator
+above-lowest-entry e q =
+    let others =
+    neither (eqb (e .period .denominator) 0) (eqb (e .duration .denominator) 0)
+    (neither (eqb (e .phase .denominator) 0) (eqb (e .period .denominator) 0 || eqb (e .duration .denominator) 0) q .1) in
+    above-lowest (e .duration) (e .period) (others .1) (others .0)
+
 entry-lowest : (i : ℕ) (e : Entry) → entryCheck i (lowestEntry e) ≡ entryCheck i e
 unfolding entryCheck
 entry-lowest i e =
-    rw
-    (denominator-zero (e .phase), denominator-zero (e .period), denominator-zero (e .duration), numerator-zero (e .period), numerator-zero (e .duration))
-    (go (eqb (e .period .denominator) 0) (eqb (e .duration .denominator) 0) refl refl)
+    (λ k. chain (no-denominator-lowest e k) (no-time-lowest e k) (above (lowest (e .duration)) (lowest (e .period)))) ∙ go (noDenominator e) refl
   where
-    -- the order is looked at only where both have a denominator
-    chain : (p q d : Bool) → Bool → Outcome
-    chain p q d b =
-        orElse (test p (ZeroDenominator i))
-        (orElse (test q (ZeroDenominator i))
-        (orElse (test d (ZeroDenominator i))
-        (orElse (test (eqb (e .period .numerator) 0) (ZeroTime i))
-        (orElse (test (eqb (e .duration .numerator) 0) (ZeroTime i))
-        (test b (DurationAbovePeriod i))))))
+    chain : (d t a : Bool) → Outcome
+    chain d t a = orElse (test d (ZeroDenominator i)) (orElse (test t (ZeroTime i)) (test a (DurationAbovePeriod i)))
 
-    go :
-        (q d : Bool) → eqb (e .period .denominator) 0 ≡ q → eqb (e .duration .denominator) 0 ≡ d →
-        chain (eqb (e .phase .denominator) 0) q d (above (lowest (e .duration)) (lowest (e .period)))
-        ≡ chain (eqb (e .phase .denominator) 0) q d (above (e .duration) (e .period))
-    go true d eq ed = refl
-    go false true eq ed = refl
-    go false false eq ed = ap (chain (eqb (e .phase .denominator) 0) false false) (above-lowest (e .duration) (e .period) ed eq)
+    -- the order is looked at only where there are denominators
+    go : (d : Bool) → noDenominator e ≡ d → chain (noDenominator e) (noTime e) (above (lowest (e .duration)) (lowest (e .period))) ≡ chain (noDenominator e) (noTime e) (above (e .duration) (e .period))
+    go true q =
+        ap (λ (d : Bool). chain d (noTime e) (above (lowest (e .duration)) (lowest (e .period)))) q
+        ∙ sym (ap (λ (d : Bool). chain d (noTime e) (above (e .duration) (e .period))) q)
+    go false q = ap (chain (noDenominator e) (noTime e)) (above-lowest-entry e q)
 
 long-lowest : (tick : Fraction) (i : ℕ) (e : Entry) → longCheck tick i (lowestEntry e) ≡ longCheck tick i e
-unfolding longCheck
+unfolding longCheck tooLong
 long-lowest tick i e = rw (ticks-lowest (e .phase) tick, ticks-lowest (e .period) tick, ticks-lowest (e .duration) tick)
 
 denominators-lowest : (es : List Entry) → denominators (map lowestEntry es) ≡ denominators es

@@ -3,7 +3,7 @@
 -- Assumes nothing.
 use Prim.Native.Nat.{ℕ, suc, _+_, _-_, _<_, _≤_}
 use mathlib.Core.Path.{_≡_, refl, sym, ap, _∙_}
-use mathlib.Core.Bool.{Bool, true, false, cond}
+use mathlib.Core.Bool.{Bool, true, false, cond, _||_, or-false}
 use mathlib.Core.List.{List, [], _∷_, _++_, map, append-assoc, map-append}
 use native.Mathlib.Numerals.{add-one}
 use native.Mathlib.Decide.{decLe}
@@ -27,9 +27,9 @@ use Rattle.table.specs.declared.Timed.the-variants as trains
 use Rattle.table.specs.declared.Outcome.{Outcome}
 use Rattle.table.specs.declared.Outcome.the-variants.{Passed, Refused}
 use Rattle.table.specs.Row.{capacity, noEntry, whole, ticksOf, trainOf}
-use Rattle.table.specs.Answer.{test, orElse, tooMany, longCheck, noTrain, filled, tableOf, refused, readAfter}
+use Rattle.table.specs.Answer.{test, tooMany, tooLong, longCheck, noTrain, filled, tableOf, refused, readAfter}
 use Rattle.table.specs.Inside.{timed, withTime, trainTimed, readTicks}
-use Rattle.table.proofs.Checks.{or-else-passed, Passing, passing-begins, passing-on, passing-refused, passing-ends}
+use Rattle.table.proofs.Checks.{Passing, passing-begins, passing-on, passing-refused, passing-ends}
 
 -- ---- Core laws
 
@@ -93,22 +93,24 @@ longOf i trains.TooLong = Refused (TimeTooLong i)
 longOf i (trains.InTicks t) = Passed
 
 -- one time, and what follows it
-long-time : (i : ℕ) (t : Ticks) (o : Outcome) (next : Timed) → o ≡ longOf i next → orElse (test (tooMany t) (TimeTooLong i)) o ≡ longOf i (withTime (timed t) next)
+long-time :
+    (i : ℕ) (t : Ticks) (b : Bool) (next : Timed) → test b (TimeTooLong i) ≡ longOf i next →
+    test (tooMany t || b) (TimeTooLong i) ≡ longOf i (withTime (timed t) next)
 unfolding longOf
-long-time i NotWhole o next e = refl
-long-time i (Whole k) o next e = go (decLe k maxTicks)
+long-time i NotWhole b next e = refl
+long-time i (Whole k) b next e = go (decLe k maxTicks)
   where
-    go : Dec (k ≤ maxTicks) → orElse (test (tooMany (Whole k)) (TimeTooLong i)) o ≡ longOf i (withTime (timed (Whole k)) next)
+    go : Dec (k ≤ maxTicks) → test (tooMany (Whole k) || b) (TimeTooLong i) ≡ longOf i (withTime (timed (Whole k)) next)
     go (yes h) = simp (le-ltb maxTicks k h, le-leb k maxTicks h, e)
     go (no h) = simp (lt-ltb maxTicks k (omega arith), lt-leb k maxTicks (omega arith))
 
 pub long-timed : (tick : Fraction) (i : ℕ) (e : Entry) → longCheck tick i e ≡ longOf i (trainTimed tick e)
-unfolding longCheck longOf
+unfolding longCheck tooLong longOf
 long-timed tick i e =
     long-time i (wholeTicks (e .phase) tick) _ _
     (long-time i (wholeTicks (e .period) tick) _ _
-    (sym (or-else-passed (test (tooMany (wholeTicks (e .duration) tick)) (TimeTooLong i)))
-    ∙ long-time i (wholeTicks (e .duration) tick) Passed (trains.InTicks (trainOf tick e)) refl))
+    (ap (λ (b : Bool). test b (TimeTooLong i)) (sym (or-false (tooMany (wholeTicks (e .duration) tick))))
+    ∙ long-time i (wholeTicks (e .duration) tick) false (trains.InTicks (trainOf tick e)) refl))
 
 -- a train that is in ticks is the train of the entry
 timed-train : (tick : Fraction) (e : Entry) (t : Train) → trainTimed tick e ≡ trains.InTicks t → t ≡ trainOf tick e

@@ -1,6 +1,7 @@
 -- The functions that the contracts cite. Promises says what they have to do with the words of Row and Given.
 --     test b r                one refusal: r where the test says so
 --     orElse o p              the first of two outcomes that is a refusal
+--     noDenominator e, noTime e, tooLong tick e     whether the conditions of 2, 3 and 6 hold of a train
 --     entryCheck i e          refusals 2, 3, 4 of the train at position i
 --     fineCheck es i e        refusal 5 of the train at position i
 --     longCheck tick i e      refusal 6 of the train at position i
@@ -9,7 +10,7 @@
 --     refusal row             refusals 1 to 6
 --     reading row             the table of a row, as `read` answers it
 use Prim.Native.Nat.{ℕ, suc, _-_, _%_}
-use mathlib.Core.Bool.{Bool, true, false, cond, not}
+use mathlib.Core.Bool.{Bool, true, false, not, _||_}
 use mathlib.Core.List.{List, [], _∷_, _++_, map}
 use lib.Dec.{leb, ltb, eqb}
 use lib.ListN.{length, take, replicate}
@@ -45,15 +46,20 @@ unfoldable pub firstRefusal : (ℕ → Entry → Outcome) → ℕ → List Entry
 firstRefusal check i [] = Passed
 firstRefusal check i (e ∷ es) = orElse (check i e) (firstRefusal check (suc i) es)
 
+-- Whether a denominator is 0.
+unfoldable pub noDenominator : Entry → Bool
+noDenominator e = eqb (e .phase .denominator) 0 || (eqb (e .period .denominator) 0 || eqb (e .duration .denominator) 0)
+
+-- Whether period or duration is 0.
+unfoldable pub noTime : Entry → Bool
+noTime e = eqb (e .period .numerator) 0 || eqb (e .duration .numerator) 0
+
 -- Refusals 2, 3 and 4 of one train.
 unfoldable pub entryCheck : ℕ → Entry → Outcome
 entryCheck i e =
-    orElse (test (eqb (e .phase .denominator) 0) (ZeroDenominator i))
-    (orElse (test (eqb (e .period .denominator) 0) (ZeroDenominator i))
-    (orElse (test (eqb (e .duration .denominator) 0) (ZeroDenominator i))
-    (orElse (test (eqb (e .period .numerator) 0) (ZeroTime i))
-    (orElse (test (eqb (e .duration .numerator) 0) (ZeroTime i))
-    (test (above (e .duration) (e .period)) (DurationAbovePeriod i))))))
+    orElse (test (noDenominator e) (ZeroDenominator i))
+    (orElse (test (noTime e) (ZeroTime i))
+    (test (above (e .duration) (e .period)) (DurationAbovePeriod i)))
 
 -- Refusal 1, then train by train 2, 3 and 4.
 unfoldable pub checked : List ℕ → Outcome
@@ -80,12 +86,14 @@ abbrev pub tooMany : Ticks → Bool
 tooMany NotWhole = true
 tooMany (Whole k) = ltb maxTicks k
 
+-- Whether a time of a train is so.
+unfoldable pub tooLong : Fraction → Entry → Bool
+tooLong tick e =
+    tooMany (wholeTicks (e .phase) tick) || (tooMany (wholeTicks (e .period) tick) || tooMany (wholeTicks (e .duration) tick))
+
 -- Refusal 6 of one train.
 unfoldable pub longCheck : Fraction → ℕ → Entry → Outcome
-longCheck tick i e =
-    orElse (test (tooMany (wholeTicks (e .phase) tick)) (TimeTooLong i))
-    (orElse (test (tooMany (wholeTicks (e .period) tick)) (TimeTooLong i))
-    (test (tooMany (wholeTicks (e .duration) tick)) (TimeTooLong i)))
+longCheck tick i e = test (tooLong tick e) (TimeTooLong i)
 
 -- Refusal 6, at the first train with a time above the limit.
 abbrev pub short : Fraction → List Entry → Outcome

@@ -12,7 +12,7 @@ ghost use Rattle.fraction.specs.Answer.{wholeTicks, runningFrom, running};
 ghost use Rattle.fraction.specs.declared.Multiple.the-variants.{Within};
 ghost use Rattle.table.specs.declared.Outcome.the-variants.{Passed};
 ghost use Rattle.table.specs.Row.{capacity, numbers, longestRow, recordLength, timeAt, noEntry, entries, denominatorsOf, denominators};
-ghost use Rattle.table.specs.Answer.{entryCheck, checked, fine, refused, reading};
+ghost use Rattle.table.specs.Answer.{noDenominator, noTime, entryCheck, checked, fine, refused, reading};
 ghost use Rattle.table.specs.Inside.{timed, trainTimed, readTicks};
 
 // The three times of one train in milliseconds, as they stand in a row.
@@ -125,23 +125,37 @@ impl Entry {
         }
     }
 
+    // Whether a denominator is 0.
+    fn lacks_denominator(self) -> bool
+        ensures { λ r. ⌜ r ≡ noDenominator self ⌝ }
+    {
+        if self.phase.denominator == 0 {
+            return true;
+        }
+        if self.period.denominator == 0 {
+            return true;
+        }
+        self.duration.denominator == 0
+    }
+
+    // Whether period or duration is 0.
+    fn lacks_time(self) -> bool
+        ensures { λ r. ⌜ r ≡ noTime self ⌝ }
+    {
+        if self.period.numerator == 0 {
+            return true;
+        }
+        self.duration.numerator == 0
+    }
+
     // Refusals 2, 3 and 4, for the train at a position.
     pub fn check(self, position: usize) -> Outcome
         ensures { λ r. ⌜ r ≡ entryCheck position self ⌝ }
     {
-        if self.phase.denominator == 0 {
+        if self.lacks_denominator() {
             return Outcome::Refused(Refusal::ZeroDenominator(position));
         }
-        if self.period.denominator == 0 {
-            return Outcome::Refused(Refusal::ZeroDenominator(position));
-        }
-        if self.duration.denominator == 0 {
-            return Outcome::Refused(Refusal::ZeroDenominator(position));
-        }
-        if self.period.numerator == 0 {
-            return Outcome::Refused(Refusal::ZeroTime(position));
-        }
-        if self.duration.numerator == 0 {
+        if self.lacks_time() {
             return Outcome::Refused(Refusal::ZeroTime(position));
         }
         if self.duration.above(self.period) {
