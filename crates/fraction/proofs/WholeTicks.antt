@@ -93,14 +93,18 @@ ticks-lowest f tick = go (decLe 1 (f .denominator)) (decLe 1 (tick .numerator))
     unit-none h z =
         sym (ticks-no-unit h tick _ _ refl refl (ap (λ (x : ℕ). h .denominator * x) z ∙ mul-zero (h .denominator)))
 
-    never : (r : Ticks) → wholeTicks f tick ≡ r → wholeTicks (lowest f) tick ≡ NotWhole → 0 < f .denominator → 0 < tick .numerator → NotWhole ≡ wholeTicks f tick
+    never :
+        (r : Ticks) → wholeTicks f tick ≡ r → wholeTicks (lowest f) tick ≡ NotWhole → 0 < f .denominator → 0 < tick .numerator →
+        NotWhole ≡ wholeTicks f tick
     never NotWhole q e h u = sym q
     never (Whole j) q e h u =
         let found = ticks-found (lowest f) tick j (lowest-terms f h .positive) u (lowest-is-ticks f tick j h .0 (ticks-exact f tick j q)) in
         let z : _≡_ {A = ℕ} 0 1 = cc in
         absurd (omega arith)
 
-    same : (r : Ticks) → wholeTicks (lowest f) tick ≡ r → 0 < f .denominator → 0 < tick .numerator → wholeTicks (lowest f) tick ≡ wholeTicks f tick
+    same :
+        (r : Ticks) → wholeTicks (lowest f) tick ≡ r → 0 < f .denominator → 0 < tick .numerator →
+        wholeTicks (lowest f) tick ≡ wholeTicks f tick
     same (Whole k) e h u = e ∙ sym (ticks-found f tick k h u (lowest-is-ticks f tick k h .1 (ticks-exact (lowest f) tick k e)))
     same NotWhole e h u = e ∙ never (wholeTicks f tick) refl e h u
 

@@ -1,12 +1,11 @@
 -- What each verdict means: the theorems of specs/Promises.antt.
 -- Core: view, the three ways that a verdict comes about. The rest follows from it.
 -- Assumes nothing.
-use Prim.Native.Nat.{ℕ, zero, suc, _+_, _*_, _<_, _≤_}
+use Prim.Native.Nat.{ℕ, _*_, _<_, _≤_}
 use mathlib.Core.Path.{_≡_, refl, sym, ap, subst, _∙_}
-use mathlib.Core.Bool.{true, false}
+use mathlib.Core.Bool.{false}
 use mathlib.Core.Logic.{_↔_, _⊎_, inl, inr, ⊎-elim}
 use mathlib.Core.List.{List, [], _∷_, _++_}
-use mathlib.Mathlib.Data.Bool.Basic.{eq-false-eq-not-eq-true}
 use native.Mathlib.Nat.{eq-or-lt-of-le, zero-add}
 use native.Mathlib.Decide.{decLe}
 use native.Mathlib.Omega.{arith}
@@ -23,23 +22,21 @@ use Rattle.train.proofs.Test.{free-iff-apart, collides-iff, pair-divisions}
 use Rattle.train.proofs.Least.{earliest-at, earliest-exists}
 use Rattle.table.specs.declared.Outcome.{Outcome}
 use Rattle.table.specs.declared.Outcome.the-variants.{Passed, Refused}
-use Rattle.table.specs.declared.Reading.{Reading}
-use Rattle.table.specs.Row.{capacity, entries, multiple, trains, SameRow}
+use Rattle.table.specs.Row.{entries, multiple, trains, SameRow}
 use Rattle.table.specs.Given.{Given}
-use Rattle.table.specs.Answer.{refusal, reading}
-use Rattle.table.proofs.Readings.{refused-exactly, trains-length, passed-few, passed-limits, reading-outcome, reading-table}
+use Rattle.table.specs.Answer.{refusal}
+use Rattle.table.proofs.Readings.{refused-exactly, trains-length, passed-few, passed-limits}
 use Rattle.table.proofs.Terms.{reading-same}
 use Rattle.judge.specs.declared.Found.{Found}
 use Rattle.judge.specs.declared.Found.the-variants.{Free, Meets}
 use Rattle.judge.specs.declared.Meeting.{Meeting}
-use Rattle.judge.specs.declared.Verdict.{Verdict}
 use Rattle.judge.specs.declared.Verdict.the-variants as v
-use Rattle.judge.specs.Paper.{Shown, accept, collide, refuse, paper}
-use Rattle.judge.specs.Pairs.{trainAt, Schedulable, Places, Before, PairOf, FirstPair, pairs, In, divisionsOf, total, SummedTo}
+use Rattle.judge.specs.Paper.{accept, collide, refuse, paper}
+use Rattle.judge.specs.Pairs.{trainAt, Schedulable, Places, Before, PairOf, FirstPair, pairs, In, total, SummedTo}
 use Rattle.judge.specs.Answer.{tickOf, scan, found, verdict}
 use Rattle.judge.proofs.Walk.{pairs-few}
 use Rattle.judge.proofs.Ordered.{pairs-all, pairs-before, before-total, in-left}
-use Rattle.judge.proofs.Verdicts.{verdict-refused, verdict-found, verdictRead, verdict-read, FreePair, scan-all-free, FirstMeeting, scan-first, meets-pair}
+use Rattle.judge.proofs.Verdicts.{verdict-refused, verdict-found, verdictRead, verdict-read, FreePair, scan-all-free, scan-first, meets-pair}
 
 -- ---- Core law
 
@@ -80,7 +77,9 @@ module _ (row : List ℕ) where
   free-apart e p h f =
       free-iff-apart _ _ (limits e (p .first) (omega (arith, h .0, h .1)) .strict) (limits e (p .second) (h .1) .strict) .0 f
 
-  not-free : refusal row ≡ Passed → (p : Places) → PairOf (length (trains row)) p → free (at (p .first)) (at (p .second)) ≡ false → Collide (at (p .first)) (at (p .second))
+  not-free :
+      refusal row ≡ Passed → (p : Places) → PairOf (length (trains row)) p → free (at (p .first)) (at (p .second)) ≡ false →
+      Collide (at (p .first)) (at (p .second))
   not-free e p h f =
       collides-iff _ _ (limits e (p .first) (omega (arith, h .0, h .1)) .strict) (limits e (p .second) (h .1) .strict) .0 f
 
@@ -98,18 +97,23 @@ module _ (row : List ℕ) where
       go (no h) = apart j i (omega arith) hi cj ci
 
   -- what the walk has found is the first pair that collides, at its earliest tick
-  first-pair : (i j d : ℕ) → refusal row ≡ Passed → scan at (pairs (length (trains row))) 0 ≡ Meets i j d → FirstPair (trains row) (record { first = i; second = j })
+  first-pair :
+      (i j d : ℕ) → refusal row ≡ Passed → scan at (pairs (length (trains row))) 0 ≡ Meets i j d →
+      FirstPair (trains row) (record { first = i; second = j })
   first-pair i j d e q =
       let p : Places = record { first = i; second = j } in
       let f = scan-first at (pairs (length (trains row))) i j 0 d q in
       let pair = meets-pair at (length (trains row)) i j 0 d q in
+      let in-front = pairs-before (length (trains row)) (f .before) (f .behind) p (f .in-order) in
       record {
         pair = pair;
         collides = not-free e p pair (f .meets);
-        before = λ r h early. free-apart e r h (f .all-free r (pairs-before (length (trains row)) (f .before) (f .behind) p (f .in-order) r .1 (h, early)));
+        before = λ r h early. free-apart e r h (f .all-free r (in-front r .1 (h, early)));
       }
 
-  earliest-tick : (i j : ℕ) → refusal row ≡ Passed → FirstPair (trains row) (record { first = i; second = j }) → Least (Both (at i) (at j)) (tickOf (earliest (at i) (at j)))
+  earliest-tick :
+      (i j : ℕ) → refusal row ≡ Passed → FirstPair (trains row) (record { first = i; second = j }) →
+      Least (Both (at i) (at j)) (tickOf (earliest (at i) (at j)))
   earliest-tick i j e f =
       let li = limits e i (omega (arith, f .pair .0, f .pair .1)) in
       let lj = limits e j (f .pair .1) in
@@ -123,7 +127,7 @@ module _ (row : List ℕ) where
     where
       there : View row → paper (verdict row) ≡ refuse (refusals.paper r .number) (refusals.paper r .place) → Given row r
       there (refused s e q) h =
-          let k : refuse (refusals.paper s .number) (refusals.paper s .place) ≡ refuse (refusals.paper r .number) (refusals.paper r .place) = ap paper (sym q) ∙ h in
+          let k = ap paper (sym q) ∙ h in
           let a : refusals.paper s .number ≡ refusals.paper r .number = cc in
           let b : refusals.paper s .place ≡ refusals.paper r .place = cc in
           refused-exactly row r .0 (e ∙ ap Refused (refusals-proved.promises .paper-tells s r (λ i. record { number = a i; place = b i })))
@@ -152,7 +156,8 @@ module _ (row : List ℕ) where
       back (meets i j d e f q) p s =
           let first = first-pair i j d e f in
           let w = first .collides in
-          absurd (s (w .0) i j (omega (arith, first .pair .0, first .pair .1)) (first .pair .1) (λ same. omega (arith, first .pair .0)) (w .1 .0) (w .1 .1))
+          let smaller : i < length (trains row) = omega (arith, first .pair .0, first .pair .1) in
+          absurd (s (w .0) i j smaller (first .pair .1) (λ same. omega (arith, first .pair .0)) (w .1 .0) (w .1 .1))
 
   pub accept-exactly : refusal row ≡ Passed → ((L d : ℕ) × (paper (verdict row) ≡ accept L d)) ↔ Schedulable (trains row)
   accept-exactly e = (λ w. accept-schedulable .0 w .1, λ s. accept-schedulable .1 (e, s))
@@ -247,7 +252,9 @@ module _ (row : List ℕ) where
   -- ---- The bound of the division count
 
   -- at most 33 a pair
-  total-few : refusal row ≡ Passed → (ps : List Places) → ((p : Places) → In p ps → PairOf (length (trains row)) p) → total at ps ≤ 33 * length ps
+  total-few :
+      refusal row ≡ Passed → (ps : List Places) → ((p : Places) → In p ps → PairOf (length (trains row)) p) →
+      total at ps ≤ 33 * length ps
   unfolding total
   total-few e [] all = omega arith
   total-few e (p ∷ ps) all =

@@ -1,38 +1,34 @@
 -- The laws of the verdict: the ways through the code, and what each verdict means.
 -- Core: verdict-refused, verdict-found, scan-all-free, scan-first. The rest follows from these.
 -- Assumes nothing.
-use Prim.Native.Nat.{ℕ, zero, suc, _+_, _*_, _-_, _<_, _≤_}
+use Prim.Native.Nat.{ℕ, zero, suc, _+_, _-_, _<_}
 use mathlib.Core.Path.{_≡_, refl, sym, ap, subst, fun-ext, _∙_}
-use mathlib.Core.Bool.{Bool, true, false, cond}
-use mathlib.Core.Logic.{_↔_, _⊎_, inl, inr, ⊎-elim}
-use mathlib.Core.List.{List, [], _∷_, _++_, map}
+use mathlib.Core.Bool.{Bool, true, false}
+use mathlib.Core.Logic.{inl, ⊎-elim}
+use mathlib.Core.List.{List, [], _∷_, _++_}
 use native.Mathlib.Nat.{add-zero, add-assoc}
 use native.Mathlib.Omega.{arith}
 use lib.ListN.{length, getD, replicate}
 use Rattle.refusal.specs.declared.Refusal.{Refusal}
 use Rattle.train.specs.declared.Train.{Train}
-use Rattle.train.specs.declared.CommonTick.{CommonTick}
-use Rattle.train.specs.declared.CommonTick.the-variants.{Never, At}
-use Rattle.train.specs.Claims.{Limits, Claims, Both, Apart, Collide, Least}
+use Rattle.train.specs.Claims.{Limits, Collide}
 use Rattle.train.specs.Answer.{free, earliest}
-use Rattle.train.proofs.Test.{free-iff-apart, collides-iff}
-use Rattle.train.proofs.Least.{earliest-at, earliest-exists}
 use Rattle.table.specs.declared.Outcome.{Outcome}
 use Rattle.table.specs.declared.Outcome.the-variants.{Passed, Refused}
 use Rattle.table.specs.declared.Reading.{Reading}
 use Rattle.table.specs.declared.Table.{Table}
-use Rattle.table.specs.Row.{capacity, entries, multiple, tick, trainOf, trains}
+use Rattle.table.specs.Row.{capacity, entries, multiple, tick, trains}
 use Rattle.table.specs.Answer.{refusal, noTrain, filled, tableOf, reading}
 use Rattle.table.proofs.Readings.{reading-outcome, reading-table, trains-length, passed-few, passed-limits}
 use Rattle.judge.specs.declared.Found.{Found}
 use Rattle.judge.specs.declared.Found.the-variants.{Free, Meets}
 use Rattle.judge.specs.declared.Verdict.{Verdict}
 use Rattle.judge.specs.declared.Verdict.the-variants as v
-use Rattle.judge.specs.Pairs.{trainAt, Schedulable, Places, Before, PairOf, FirstPair, pairs, In, divisionsOf, total}
+use Rattle.judge.specs.Pairs.{trainAt, Places, PairOf, pairs, In, divisionsOf, total}
 use Rattle.judge.specs.Answer.{tickOf, scan, found, judged, verdict}
 use Rattle.judge.specs.Inside.{Scannable}
-use Rattle.judge.proofs.Walk.{scan-free, scan-meets, pairs-few}
-use Rattle.judge.proofs.Ordered.{in-right, pairs-all, pairs-before}
+use Rattle.judge.proofs.Walk.{scan-free, scan-meets}
+use Rattle.judge.proofs.Ordered.{in-right, pairs-all}
 
 -- ---- Core laws
 
@@ -66,7 +62,9 @@ abbrev pub FreePair : (ℕ → Train) → Places → Type 0
 FreePair train p = free (train (p .first)) (train (p .second)) ≡ true
 
 -- all pairs are free, and their counts are added up
-pub scan-all-free : (train : ℕ → Train) (ps : List Places) (d e : ℕ) → scan train ps d ≡ Free e → ((p : Places) → In p ps → FreePair train p) × (e ≡ d + total train ps)
+pub scan-all-free :
+    (train : ℕ → Train) (ps : List Places) (d e : ℕ) → scan train ps d ≡ Free e →
+    ((p : Places) → In p ps → FreePair train p) × (e ≡ d + total train ps)
 unfolding scan total
 scan-all-free train [] d e q = ((λ p m. absurd m), same q ∙ sym (add-zero d))
   where
@@ -75,7 +73,8 @@ scan-all-free train [] d e q = ((λ p m. absurd m), same q ∙ sym (add-zero d))
 scan-all-free train (p ∷ ps) d e q = go (scan-all-free train ps (d + divisionsOf train p) e) (free (train (p .first)) (train (p .second))) refl
   where
     go :
-        (scan train ps (d + divisionsOf train p) ≡ Free e → ((r : Places) → In r ps → FreePair train r) × (e ≡ d + divisionsOf train p + total train ps)) →
+        (scan train ps (d + divisionsOf train p) ≡ Free e →
+        ((r : Places) → In r ps → FreePair train r) × (e ≡ d + divisionsOf train p + total train ps)) →
         (b : Bool) → free (train (p .first)) (train (p .second)) ≡ b →
         ((r : Places) → In r (p ∷ ps) → FreePair train r) × (e ≡ d + (divisionsOf train p + total train ps))
     go later true f =
@@ -95,13 +94,16 @@ pub record FirstMeeting (train : ℕ → Train) (ps : List Places) (p : Places) 
   pub meets : free (train (p .first)) (train (p .second)) ≡ false
   pub sum : e ≡ d + total train (before ++ p ∷ [])
 
-pub scan-first : (train : ℕ → Train) (ps : List Places) (i j d e : ℕ) → scan train ps d ≡ Meets i j e → FirstMeeting train ps (record { first = i; second = j }) d e
+pub scan-first :
+    (train : ℕ → Train) (ps : List Places) (i j d e : ℕ) → scan train ps d ≡ Meets i j e →
+    FirstMeeting train ps (record { first = i; second = j }) d e
 unfolding scan total
 scan-first train [] i j d e q = let z : _≡_ {A = ℕ} 0 1 = cc in absurd (omega arith)
 scan-first train (p ∷ ps) i j d e q = go (scan-first train ps i j (d + divisionsOf train p) e) (free (train (p .first)) (train (p .second))) refl
   where
     go :
-        (scan train ps (d + divisionsOf train p) ≡ Meets i j e → FirstMeeting train ps (record { first = i; second = j }) (d + divisionsOf train p) e) →
+        (scan train ps (d + divisionsOf train p) ≡ Meets i j e →
+        FirstMeeting train ps (record { first = i; second = j }) (d + divisionsOf train p) e) →
         (b : Bool) → free (train (p .first)) (train (p .second)) ≡ b → FirstMeeting train (p ∷ ps) (record { first = i; second = j }) d e
     go later true f =
         let k = later (sym (scan-free train p ps d f) ∙ q) in
@@ -179,7 +181,9 @@ module _ (row : List ℕ) (r : Reading) (is : r ≡ reading row) where
         ∙ verdict-found row passes
 
     -- the positions that the walk has found are in the array
-    pub read-positions : (f : Found) (i j d : ℕ) → f ≡ scan (trainAt (r .table .trains)) (pairs (r .table .count)) 0 → f ≡ Meets i j d → (i < capacity) × (j < capacity)
+    pub read-positions :
+        (f : Found) (i j d : ℕ) → f ≡ scan (trainAt (r .table .trains)) (pairs (r .table .count)) 0 → f ≡ Meets i j d →
+        (i < capacity) × (j < capacity)
     read-positions f i j d f-is q =
         let pair = meets-pair (trainAt (r .table .trains)) (r .table .count) i j 0 d (sym f-is ∙ q) in
         let few = read-scannable .few in

@@ -7,7 +7,6 @@ use mathlib.Core.Bool.{Bool, true, false, cond}
 use mathlib.Core.List.{List, [], _∷_, _++_}
 use native.Mathlib.Nat.{mul-le-mul, le-refl}
 use native.Mathlib.Numerals.{add-one}
-use native.Mathlib.Decide.{ℕ-discrete}
 use native.Mathlib.Omega.{arith}
 use lib.ListN.{length, length-append}
 use Rattle.train.specs.declared.Train.{Train}
@@ -15,7 +14,6 @@ use Rattle.train.specs.declared.Pair.{Pair}
 use Rattle.train.specs.Answer.{free, pair}
 use Rattle.train.proofs.Test.{pair-divisions}
 use Rattle.table.specs.Row.{capacity}
-use Rattle.judge.specs.declared.Found.{Found}
 use Rattle.judge.specs.declared.Found.the-variants.{Free, Meets}
 use Rattle.judge.specs.Pairs.{trainAt, Places, pairsWith, pairsFrom, pairs, divisionsOf}
 use Rattle.judge.specs.Answer.{scan}
@@ -29,7 +27,9 @@ module _ (train : ℕ → Train) (p : Places) (ps : List Places) (d : ℕ) where
   unfolding scan
   scan-free e = ap (λ (b : Bool). cond b (scan train ps (d + divisionsOf train p)) (Meets (p .first) (p .second) (d + divisionsOf train p))) e
 
-  pub scan-meets : free (train (p .first)) (train (p .second)) ≡ false → scan train (p ∷ ps) d ≡ Meets (p .first) (p .second) (d + divisionsOf train p)
+  pub scan-meets :
+      free (train (p .first)) (train (p .second)) ≡ false →
+      scan train (p ∷ ps) d ≡ Meets (p .first) (p .second) (d + divisionsOf train p)
   unfolding scan
   scan-meets e = ap (λ (b : Bool). cond b (scan train ps (d + divisionsOf train p)) (Meets (p .first) (p .second) (d + divisionsOf train p))) e
 

@@ -4,7 +4,7 @@
 use Prim.Native.Nat.{ℕ, suc, _+_, _%_, _<_, _≤_}
 use mathlib.Core.Path.{_≡_, refl, sym, ap, _∙_}
 use mathlib.Core.Bool.{Bool, true, false}
-use mathlib.Core.List.{List, [], _∷_}
+use mathlib.Core.List.{List}
 use native.Mathlib.Numerals.{add-one}
 use native.Mathlib.Omega.{arith}
 use lib.Dec.{eqb}
@@ -36,7 +36,8 @@ module _ (e : Entry) where
   unfolding noDenominator
   denominator-period p h = simp (ne-eqb (e .phase .denominator) 0 p, eq-eqb (e .period .denominator) 0 h)
 
-  pub denominator-duration : (e .phase .denominator ≡ 0 → ⊥) → (e .period .denominator ≡ 0 → ⊥) → eqb (e .duration .denominator) 0 ≡ noDenominator e
+  pub denominator-duration :
+      (e .phase .denominator ≡ 0 → ⊥) → (e .period .denominator ≡ 0 → ⊥) → eqb (e .duration .denominator) 0 ≡ noDenominator e
   unfolding noDenominator
   denominator-duration p q = simp (ne-eqb (e .phase .denominator) 0 p, ne-eqb (e .period .denominator) 0 q)
 
@@ -74,14 +75,20 @@ module _ (i : ℕ) (e : Entry) (d : Bool) (d-is : d ≡ noDenominator e) where
 
 -- the first refusal is that of the first train, or else of the others
 module _ (check : ℕ → Entry → Outcome) (es : List Entry) where
-  first-at : (i : ℕ) → i < length es → firstRefusal check i (drop i es) ≡ orElse (check i (getD es i noEntry)) (firstRefusal check (suc i) (drop (suc i) es))
+  first-at :
+      (i : ℕ) → i < length es →
+      firstRefusal check i (drop i es) ≡ orElse (check i (getD es i noEntry)) (firstRefusal check (suc i) (drop (suc i) es))
   unfolding firstRefusal
   first-at i h = ap (firstRefusal check i) (drop-cons es i noEntry h)
 
-  pub first-here : (i : ℕ) (r : Refusal) → i < length es → check i (getD es i noEntry) ≡ Refused r → firstRefusal check i (drop i es) ≡ Refused r
+  pub first-here :
+      (i : ℕ) (r : Refusal) → i < length es → check i (getD es i noEntry) ≡ Refused r →
+      firstRefusal check i (drop i es) ≡ Refused r
   first-here i r h e = first-at i h ∙ ap (λ (o : Outcome). orElse o (firstRefusal check (suc i) (drop (suc i) es))) e
 
-  pub first-on : (i : ℕ) → i < length es → check i (getD es i noEntry) ≡ Passed → firstRefusal check i (drop i es) ≡ firstRefusal check (i + 1) (drop (i + 1) es)
+  pub first-on :
+      (i : ℕ) → i < length es → check i (getD es i noEntry) ≡ Passed →
+      firstRefusal check i (drop i es) ≡ firstRefusal check (i + 1) (drop (i + 1) es)
   first-on i h e =
       first-at i h
       ∙ ap (λ (o : Outcome). orElse o (firstRefusal check (suc i) (drop (suc i) es))) e

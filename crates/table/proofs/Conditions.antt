@@ -2,29 +2,29 @@
 -- Core: entry-exact, fine-exact, long-exact, one for each stage of the order. The rest follows from these.
 -- Assumes nothing.
 use Prim.Native.Nat.{ℕ, zero, suc, _+_, _%_, _<_, _≤_, _∣_}
-use mathlib.Core.Path.{_≡_, refl, sym, ap, subst, _∙_}
+use mathlib.Core.Path.{_≡_, refl, sym, ap, subst}
 use mathlib.Core.Bool.{Bool, true, false, not, _||_}
 use mathlib.Core.Logic.{_↔_, _⊎_, inl, inr, ⊎-elim}
-use mathlib.Core.List.{List, [], _∷_, _++_}
+use mathlib.Core.List.{List}
 use mathlib.Mathlib.Data.Bool.Basic.{eq-false-eq-not-eq-true}
 use native.Mathlib.Nat.{mod-eq-zero-of-dvd, dvd-of-mod-eq-zero}
 use native.Mathlib.Decide.{decLe}
 use native.Mathlib.Omega.{arith}
 use lib.Dec.{ltb, eqb}
-use lib.ListN.{length, getD, take}
+use lib.ListN.{length, getD}
 use borrow.Author.Tests.{lt-ltb, ltb-true, eq-eqb, eqb-true, eqb-false, ne-eqb, not-true}
 use Rattle.refusal.specs.declared.Refusal.{Refusal}
 use Rattle.refusal.specs.declared.Refusal.the-variants.{TrainCount, ZeroDenominator, ZeroTime, DurationAbovePeriod, TickTooFine, TimeTooLong, BufferTooShort, WrongMark, WrongVersion, WrongLength, NotLowestTerms, NotATrain, NoEmptyPlace, Collision, NoTrainThere, WrongCount}
 use Rattle.refusal.specs.Paper.{paper}
-use Rattle.fraction.specs.Answer.{above, limit}
+use Rattle.fraction.specs.Answer.{above}
 use Rattle.table.specs.declared.Entry.{Entry}
 use Rattle.table.specs.declared.Outcome.{Outcome}
-use Rattle.table.specs.declared.Outcome.the-variants.{Passed, Refused}
-use Rattle.table.specs.Row.{numbers, longestRow, noEntry, entries, multiple, tick}
-use Rattle.table.specs.Given.{NoDenominator, NoTime, TooLong, Condition, stage, Earlier, Given}
-use Rattle.table.specs.Answer.{test, orElse, firstRefusal, noDenominator, noTime, entryCheck, checked, fineCheck, fine, longCheck, short, refusal}
-use Rattle.table.proofs.Order.{not-earlier}
-use Rattle.table.proofs.Exactly.{Exact, false-not-true, test-exact, or-else-exact, exact-same, exact-refused, exact-passed, first-exact}
+use Rattle.table.specs.declared.Outcome.the-variants.{Passed}
+use Rattle.table.specs.Row.{numbers, longestRow, noEntry, entries}
+use Rattle.table.specs.Given.{NoDenominator, NoTime, Condition, stage, Earlier}
+use Rattle.table.specs.Answer.{test, orElse, firstRefusal, noDenominator, noTime, entryCheck, checked}
+use Rattle.table.proofs.Order.{not-earlier, earlier-irrefl}
+use Rattle.table.proofs.Exactly.{Exact, false-not-true, test-exact, or-else-exact, exact-same, first-exact}
 
 -- ---- Where a refusal stands in the order
 
@@ -138,7 +138,7 @@ checked-exact row =
     (test-then _ TrainCount (longestRow < length row) (ltb-is longestRow (length row)) _ _
     (trains-exact 1 entryCheck EntryCondition entry-stands (entries row) (λ k h. entry-exact k (getD (entries row) k noEntry)))
     trains-later)
-    (λ s. ⊎-elim (λ c early. not-earlier TrainCount TrainCount (omega arith) (λ q. omega arith) (λ q p. omega arith) (subst (λ (x : Refusal). Earlier x TrainCount) (c .0) early)) (trains-later s)))
+    (λ s. ⊎-elim (λ c early. earlier-irrefl TrainCount (subst (λ (x : Refusal). Earlier x TrainCount) (c .0) early)) (trains-later s)))
   where
     ragged : (not (eqb (length row % numbers) 0) ≡ true) ↔ (numbers ∣ length row → ⊥)
     ragged = (
@@ -149,10 +149,13 @@ checked-exact row =
     trains-later : (s : Refusal) → Some (entries row) EntryCondition s → Earlier s TrainCount → ⊥
     trains-later s w =
         let h = entry-stands (w .0) (getD (entries row) (w .0) noEntry) s (w .2) in
-        not-earlier TrainCount s (omega (arith, h .at-stage)) (λ q. absurd (omega (arith, h .at-stage))) (λ q p. absurd (omega (arith, h .at-stage)))
+        let behind : 0 < stage s = omega (arith, h .at-stage) in
+        not-earlier TrainCount s (omega arith) (λ q. absurd (omega arith)) (λ q p. absurd (omega arith))
 
     Three : Refusal → Type 0
-    Three r = ((r ≡ TrainCount) × (numbers ∣ length row → ⊥)) ⊎ (((r ≡ TrainCount) × (longestRow < length row)) ⊎ Some (entries row) EntryCondition r)
+    Three r =
+        ((r ≡ TrainCount) × (numbers ∣ length row → ⊥))
+        ⊎ (((r ≡ TrainCount) × (longestRow < length row)) ⊎ Some (entries row) EntryCondition r)
 
     there : (r : Refusal) → Three r → CheckedCondition row r
     there r (inl (q, d)) = inl (q, inl d)
@@ -225,7 +228,8 @@ checked-sound row e k h =
 pub checked-whole : (row : List ℕ) → checked row ≡ Passed → (numbers ∣ length row) × (length row ≤ longestRow)
 checked-whole row e =
     let none : ((numbers ∣ length row → ⊥) ⊎ (longestRow < length row)) → ⊥ = λ c. checked-exact row .passed e TrainCount (inl (refl, c)) in
-    (dvd-of-mod-eq-zero numbers (zero-of (length row % numbers) (λ f. none (inl (λ d. f (mod-eq-zero-of-dvd numbers d))))), not-above (decLe (length row) longestRow) (λ l. none (inr l)))
+    let no-rest = zero-of (length row % numbers) (λ f. none (inl (λ d. f (mod-eq-zero-of-dvd numbers d)))) in
+    (dvd-of-mod-eq-zero numbers no-rest, not-above (decLe (length row) longestRow) (λ l. none (inr l)))
   where
     zero-of : (n : ℕ) → ((n ≡ 0 → ⊥) → ⊥) → n ≡ 0
     zero-of zero f = refl

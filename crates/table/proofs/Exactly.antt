@@ -1,7 +1,7 @@
 -- When an outcome is given exactly when conditions hold: one test, one check after another, and the trains one after another.
 -- Core: test-exact, or-else-exact. The rest follows from these.
 -- Assumes nothing.
-use Prim.Native.Nat.{ℕ, zero, suc, _+_, _<_, _≤_}
+use Prim.Native.Nat.{ℕ, zero, suc, _+_, _<_}
 use mathlib.Core.Path.{_≡_, refl, sym, ap, subst, _∙_}
 use mathlib.Core.Bool.{Bool, true, false}
 use mathlib.Core.Logic.{_↔_, _⊎_, inl, inr, ⊎-elim}
@@ -39,8 +39,12 @@ test-exact true r P is =
     record {
       passed = λ e s c. refused-not-passed r e;
       refused = λ s e.
-          let same : r ≡ s = refused-one e in
-          ((sym same, is .0 refl), λ u early c. earlier-irrefl r (subst (λ (x : Refusal). Earlier x r) (c .0) (subst (λ (x : Refusal). Earlier u x) (sym same) early)));
+          let same : r ≡ s = refused-one e in (
+            (sym same, is .0 refl),
+            λ u early c.
+                let before : Earlier u r = subst (Earlier u) (sym same) early in
+                earlier-irrefl r (subst (λ (x : Refusal). Earlier x r) (c .0) before),
+          );
     }
 test-exact false r P is =
     record {
@@ -79,7 +83,9 @@ exact-same o C D same exact =
     }
 
 -- a refusal is given exactly when its condition holds and none that comes earlier
-pub exact-refused : (o : Outcome) (C : Refusal → Type 0) → Exact o C → (r : Refusal) → (o ≡ Refused r) ↔ (C r × ((s : Refusal) → Earlier s r → C s → ⊥))
+pub exact-refused :
+    (o : Outcome) (C : Refusal → Type 0) → Exact o C → (r : Refusal) →
+    (o ≡ Refused r) ↔ (C r × ((s : Refusal) → Earlier s r → C s → ⊥))
 exact-refused o C exact r = (exact .refused r, back o refl)
   where
     back : (q : Outcome) → o ≡ q → C r × ((s : Refusal) → Earlier s r → C s → ⊥) → o ≡ Refused r

@@ -38,7 +38,9 @@ denominators-append (e ∷ es) fs =
     ∙ sym (append-assoc (denominatorsOf e) (denominators es) (denominators fs))
 
 -- one train more
-denominators-more : (es : List Entry) (i : ℕ) → i < length es → denominators (take (suc i) es) ≡ denominators (take i es) ++ denominatorsOf (getD es i noEntry)
+denominators-more :
+    (es : List Entry) (i : ℕ) → i < length es →
+    denominators (take (suc i) es) ≡ denominators (take i es) ++ denominatorsOf (getD es i noEntry)
 unfolding denominators
 denominators-more es i h = ap denominators (take-suc es i noEntry h) ∙ denominators-append (take i es) (getD es i noEntry ∷ [])
 
@@ -63,7 +65,9 @@ module _ (es : List Entry) (m i : ℕ) (r : Running es m i) where
       ∙ ap (λ (x : Multiple). runningFrom x (denominatorsOf (getD es i noEntry))) (r .so-far)
 
   -- refusal 5 of the next train, from the multiple that the code has found
-  next-check : (x : Multiple) → i < length es → x ≡ runningFrom (Within m) (denominatorsOf (getD es i noEntry)) → fineCheck es i (getD es i noEntry) ≡ test (isAbove x) (TickTooFine i)
+  next-check :
+      (x : Multiple) → i < length es → x ≡ runningFrom (Within m) (denominatorsOf (getD es i noEntry)) →
+      fineCheck es i (getD es i noEntry) ≡ test (isAbove x) (TickTooFine i)
   next-check x h e = ap (λ (y : Multiple). test (isAbove y) (TickTooFine i)) (running-next h ∙ sym e)
 
   pub running-refused :

@@ -1,10 +1,10 @@
 -- The tick and the trains of a row that passes refusals 1 to 4; refusals 5 and 6 exactly, and with them all of a table's.
 -- Core: multiple-pos, divides-at, ticks-at, fine-exact, long-exact. The rest follows from these.
 -- Assumes nothing.
-use Prim.Native.Nat.{ℕ, zero, suc, _+_, _*_, _/_, _<_, _≤_, _∣_}
+use Prim.Native.Nat.{ℕ, zero, suc, _<_, _≤_}
 use mathlib.Core.Path.{_≡_, refl, sym, ap, subst, _∙_}
-use mathlib.Core.Bool.{Bool, true, false}
-use mathlib.Core.Logic.{_↔_, _⊎_, inl, inr, ⊎-elim}
+use mathlib.Core.Bool.{true}
+use mathlib.Core.Logic.{_↔_, _⊎_, inl, inr}
 use mathlib.Core.List.{List, [], _∷_, _++_}
 use native.Mathlib.Decide.{decLe}
 use native.Mathlib.Omega.{arith}
@@ -14,22 +14,19 @@ use borrow.Author.Tests.{lt-ltb, ltb-true}
 use Rattle.refusal.specs.declared.Refusal.{Refusal}
 use Rattle.refusal.specs.declared.Refusal.the-variants.{TrainCount, ZeroDenominator, ZeroTime, DurationAbovePeriod, TickTooFine, TimeTooLong, BufferTooShort, WrongMark, WrongVersion, WrongLength, NotLowestTerms, NotATrain, NoEmptyPlace, Collision, NoTrainThere, WrongCount}
 use Rattle.fraction.specs.declared.Fraction.{Fraction}
-use Rattle.fraction.specs.declared.Ticks.{Ticks}
-use Rattle.fraction.specs.declared.Ticks.the-variants.{NotWhole, Whole}
+use Rattle.fraction.specs.declared.Ticks.the-variants.{Whole}
 use Rattle.fraction.specs.declared.Multiple.{Multiple}
 use Rattle.fraction.specs.declared.Multiple.the-variants.{Above, Within}
-use Rattle.fraction.specs.Value.{IsTicks, AllDivide}
-use Rattle.fraction.specs.Answer.{lowest, wholeTicks, limit, commonMultiple, running}
+use Rattle.fraction.specs.Value.{AllDivide}
+use Rattle.fraction.specs.Answer.{wholeTicks, limit, running}
 use Rattle.fraction.proofs.Lowest.{lowest-terms}
 use Rattle.fraction.proofs.CommonMultiple.{multiple-is, multiple-none-pos, multiple-more-pos, running-above}
 use Rattle.fraction.proofs.WholeTicks.{ticks-exact, ticks-found, ticks-multiple}
 use Rattle.train.specs.Claims.{maxTicks}
 use Rattle.table.specs.declared.Entry.{Entry}
-use Rattle.table.specs.declared.Outcome.{Outcome}
-use Rattle.table.specs.declared.Outcome.the-variants.{Passed, Refused}
 use Rattle.table.specs.Row.{noEntry, entries, denominatorsOf, denominators, multiple, tick}
 use Rattle.table.specs.Given.{TooManyTicks, TooLong, Condition, stage, Earlier}
-use Rattle.table.specs.Answer.{test, isAbove, fineCheck, fine, tooMany, tooLong, longCheck, short, refusal, checked}
+use Rattle.table.specs.Answer.{isAbove, fineCheck, fine, tooMany, tooLong, longCheck, short, refusal}
 use Rattle.table.proofs.Order.{not-earlier}
 use Rattle.table.proofs.Exactly.{Exact, test-exact, or-else-exact, exact-same}
 use Rattle.table.proofs.Conditions.{Stands, AllStand, stands-test, or-is, trains-exact, Some, CheckedCondition, checked-exact, checked-condition, Sound, AllSound, checked-sound}
@@ -105,7 +102,9 @@ fine-exact es sound =
 
 -- ---- Refusal 6
 
-many-is : (time tick : Fraction) → 0 < time .denominator → 0 < tick .numerator → ((k : ℕ) × (wholeTicks time tick ≡ Whole k)) → (tooMany (wholeTicks time tick) ≡ true) ↔ TooManyTicks tick time
+many-is :
+    (time tick : Fraction) → 0 < time .denominator → 0 < tick .numerator → ((k : ℕ) × (wholeTicks time tick ≡ Whole k)) →
+    (tooMany (wholeTicks time tick) ≡ true) ↔ TooManyTicks tick time
 many-is time tick pm pa (k, e) = (
   (λ t. (k, ticks-exact time tick k e, ltb-true maxTicks k (ap tooMany (sym e) ∙ t))),
   (λ w. ap tooMany (ticks-found time tick (w .0) pm pa (w .1)) ∙ lt-ltb maxTicks (w .0) (w .2)),
@@ -117,7 +116,9 @@ LongCondition tick i e r = (r ≡ TimeTooLong i) × TooLong tick e
 long-stands : (tick : Fraction) (i : ℕ) (e : Entry) → AllStand 3 i 0 (LongCondition tick i e)
 long-stands tick i e = stands-test (TimeTooLong i) _ 3 i 0 (record { at-stage = refl; at-train = refl; at-number = omega arith })
 
-long-one : (tick : Fraction) (i : ℕ) (e : Entry) → 0 < tick .numerator → Sound e → WholeTimes tick e → Exact (longCheck tick i e) (LongCondition tick i e)
+long-one :
+    (tick : Fraction) (i : ℕ) (e : Entry) → 0 < tick .numerator → Sound e → WholeTimes tick e →
+    Exact (longCheck tick i e) (LongCondition tick i e)
 unfolding longCheck tooLong
 long-one tick i e pa s w =
     test-exact _ (TimeTooLong i) (TooLong tick e)

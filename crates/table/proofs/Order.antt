@@ -1,7 +1,7 @@
 -- The laws of the order of refusals: it is an order, and any two refusals are in it.
 -- Assumes nothing.
 use Prim.Native.Nat.{ℕ, _<_, _≤_}
-use mathlib.Core.Path.{_≡_, refl, sym, ap, _∙_}
+use mathlib.Core.Path.{_≡_, sym}
 use mathlib.Core.Logic.{_⊎_, inl, inr}
 use native.Mathlib.Decide.{decLe}
 use native.Mathlib.Omega.{arith}
@@ -35,12 +35,18 @@ three m n = go (decLe m n) (decLe n m)
 pub earlier-total : (r s : Refusal) → (r ≡ s) ⊎ (Earlier r s ⊎ Earlier s r)
 earlier-total r s = stages (three (stage r) (stage s))
   where
-    numbers : stage r ≡ stage s → paper r .place ≡ paper s .place → (paper r .number < paper s .number) ⊎ ((paper r .number ≡ paper s .number) ⊎ (paper s .number < paper r .number)) → (r ≡ s) ⊎ (Earlier r s ⊎ Earlier s r)
+    numbers :
+        stage r ≡ stage s → paper r .place ≡ paper s .place →
+        (paper r .number < paper s .number) ⊎ ((paper r .number ≡ paper s .number) ⊎ (paper s .number < paper r .number)) →
+        (r ≡ s) ⊎ (Earlier r s ⊎ Earlier s r)
     numbers e q (inl h) = inr (inl (inr (e, inr (q, h))))
     numbers e q (inr (inl n)) = inl (promises .paper-tells r s (λ i. record { number = n i; place = q i }))
     numbers e q (inr (inr h)) = inr (inr (inr (sym e, inr (sym q, h))))
 
-    places : stage r ≡ stage s → (paper r .place < paper s .place) ⊎ ((paper r .place ≡ paper s .place) ⊎ (paper s .place < paper r .place)) → (r ≡ s) ⊎ (Earlier r s ⊎ Earlier s r)
+    places :
+        stage r ≡ stage s →
+        (paper r .place < paper s .place) ⊎ ((paper r .place ≡ paper s .place) ⊎ (paper s .place < paper r .place)) →
+        (r ≡ s) ⊎ (Earlier r s ⊎ Earlier s r)
     places e (inl h) = inr (inl (inr (e, inl h)))
     places e (inr (inl q)) = numbers e q (three (paper r .number) (paper s .number))
     places e (inr (inr h)) = inr (inr (inr (sym e, inl h)))

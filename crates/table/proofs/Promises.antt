@@ -1,6 +1,6 @@
 -- The proof of what specs/Promises.antt states.
 -- Assumes nothing.
-use mathlib.Core.Path.{refl, sym, _∙_}
+use mathlib.Core.Path.{refl, sym}
 use native.Mathlib.Omega.{arith}
 use Rattle.fraction.proofs.CommonMultiple.{multiple-is}
 use Rattle.table.specs.Row.{entries, denominators}

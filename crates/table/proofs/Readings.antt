@@ -1,10 +1,9 @@
 -- The laws of the whole reading: the ways through it, and what a table is that it passes.
 -- Core: read-checked, read-fine, read-rest, trains-at. The rest follows from these.
 -- Assumes nothing.
-use Prim.Native.Nat.{ℕ, zero, suc, _+_, _*_, _<_, _≤_}
+use Prim.Native.Nat.{ℕ, zero, suc, _*_, _<_, _≤_}
 use mathlib.Core.Path.{_≡_, refl, sym, ap, subst, _∙_}
-use mathlib.Core.Bool.{true, false}
-use mathlib.Core.Logic.{_↔_, _⊎_, inl, inr}
+use mathlib.Core.Logic.{_↔_, inl, inr}
 use mathlib.Core.List.{List, [], _∷_, map}
 use mathlib.Mathlib.Data.Bool.Basic.{eq-false-eq-not-eq-true}
 use native.Mathlib.Nat.{mul-pos}
@@ -18,11 +17,10 @@ use Rattle.fraction.specs.declared.Fraction.{Fraction}
 use Rattle.fraction.specs.declared.Ticks.the-variants.{Whole}
 use Rattle.fraction.specs.declared.Multiple.the-variants.{Within}
 use Rattle.fraction.specs.Value.{IsTicks}
-use Rattle.fraction.specs.Answer.{wholeTicks, above, limit, commonMultiple, running}
+use Rattle.fraction.specs.Answer.{wholeTicks, limit, commonMultiple, running}
 use Rattle.fraction.proofs.CommonMultiple.{running-within}
 use Rattle.fraction.proofs.WholeTicks.{ticks-exact}
 use Rattle.fraction.proofs.Order.{above-ticks}
-use Rattle.train.specs.declared.Train.{Train}
 use Rattle.train.specs.Claims.{Limits, maxTicks}
 use Rattle.table.specs.declared.Entry.{Entry}
 use Rattle.table.specs.declared.Outcome.{Outcome}
@@ -35,8 +33,8 @@ use Rattle.table.specs.Inside.{readTicks}
 use Rattle.table.proofs.Entries.{entries-few}
 use Rattle.table.proofs.Order.{earlier-stage}
 use Rattle.table.proofs.Exactly.{Exact, exact-same, exact-refused, exact-passed}
-use Rattle.table.proofs.Conditions.{Sound, AllSound, checked-sound, checked-whole, checked-exact, checked-condition}
-use Rattle.table.proofs.Limits.{multiple-pos, ticks-at, WholeTimes, refusal-exact}
+use Rattle.table.proofs.Conditions.{AllSound, checked-sound, checked-whole, checked-exact, checked-condition}
+use Rattle.table.proofs.Limits.{multiple-pos, ticks-at, refusal-exact}
 
 -- ---- Core laws
 
@@ -48,7 +46,8 @@ not-above (no h) f = absurd (f (omega arith))
 all-within : (es : List Entry) → ((i : ℕ) → i < length es → multiple (take (suc i) es) ≤ limit) → multiple es ≤ limit
 unfolding denominators commonMultiple
 all-within [] within = omega arith
-all-within (e ∷ es) within = subst (λ (fs : List Entry). multiple fs ≤ limit) (take-all (suc (length es)) (e ∷ es) (omega arith)) (within (length es) (omega arith))
+all-within (e ∷ es) within =
+    subst (λ (fs : List Entry). multiple fs ≤ limit) (take-all (suc (length es)) (e ∷ es) (omega arith)) (within (length es) (omega arith))
 
 -- a time that is not 0 is not 0 ticks
 some-ticks : (k u v : ℕ) → k * u ≡ v → 0 < v → 1 ≤ k
@@ -63,32 +62,38 @@ getD-map f (x ∷ l) (suc i) a b h = getD-map f l i a b (omega arith)
 
 -- the ways through the code's reading
 module _ (row : List ℕ) where
-  pub read-checked : (r : Refusal) → checked row ≡ Refused r → refused r ≡ reading row
-  unfolding reading refusal
-  read-checked r e = sym (ap (λ (o : Outcome). readAfter (orElse o (orElse (fine (entries row)) (short (tick (entries row)) (entries row)))) (tableOf (tick (entries row)) (entries row))) e)
+  -- the reading, from the outcomes of its first two stages
+  from : (first second : Outcome) → Reading
+  from first second =
+      readAfter (orElse first (orElse second (short (tick (entries row)) (entries row)))) (tableOf (tick (entries row)) (entries row))
 
-  -- past the first checks it is the others that decide
-  rest : checked row ≡ Passed → readAfter (orElse (fine (entries row)) (short (tick (entries row)) (entries row))) (tableOf (tick (entries row)) (entries row)) ≡ reading row
-  unfolding reading refusal
-  rest e = sym (ap (λ (o : Outcome). readAfter (orElse o (orElse (fine (entries row)) (short (tick (entries row)) (entries row)))) (tableOf (tick (entries row)) (entries row))) e)
+  stages : from (checked row) (fine (entries row)) ≡ reading row
+  unfolding reading refusal from
+  stages = refl
+
+  pub read-checked : (r : Refusal) → checked row ≡ Refused r → refused r ≡ reading row
+  unfolding from
+  read-checked r e = ap (λ (o : Outcome). from o (fine (entries row))) (sym e) ∙ stages
 
   pub read-fine : (r : Refusal) → checked row ≡ Passed → fine (entries row) ≡ Refused r → refused r ≡ reading row
-  read-fine r e f = sym (ap (λ (o : Outcome). readAfter (orElse o (short (tick (entries row)) (entries row))) (tableOf (tick (entries row)) (entries row))) f) ∙ rest e
+  unfolding from
+  read-fine r e f = (λ i. from (sym e i) (sym f i)) ∙ stages
 
   -- the multiple that the code has found is L
-  pub read-tick : (m : ℕ) → checked row ≡ Passed → running (denominators (entries row)) ≡ Within m → record { numerator = 1; denominator = m } ≡ tick (entries row)
+  pub read-tick :
+      (m : ℕ) → checked row ≡ Passed → running (denominators (entries row)) ≡ Within m →
+      record { numerator = 1; denominator = m } ≡ tick (entries row)
   read-tick m e w =
       ap (λ (l : ℕ). record { numerator = 1; denominator = l })
       (running-within (denominators (entries row)) m (multiple-pos (entries row) (checked-sound row e)) w)
 
   pub read-rest :
-      (m : ℕ) (r : Reading) → checked row ≡ Passed → fine (entries row) ≡ Passed → running (denominators (entries row)) ≡ Within m →
+      (m : ℕ) (r : Reading) → checked row ≡ Passed → fine (entries row) ≡ Passed →
+      running (denominators (entries row)) ≡ Within m →
       r ≡ readTicks (record { numerator = 1; denominator = m }) (entries row) → r ≡ reading row
+  unfolding from
   read-rest m r e f w is =
-      is
-      ∙ ap (λ (t : Fraction). readTicks t (entries row)) (read-tick m e w)
-      ∙ sym (ap (λ (o : Outcome). readAfter (orElse o (short (tick (entries row)) (entries row))) (tableOf (tick (entries row)) (entries row))) f)
-      ∙ rest e
+      is ∙ ap (λ (t : Fraction). readTicks t (entries row)) (read-tick m e w) ∙ (λ i. from (sym e i) (sym f i)) ∙ stages
 
   -- ---- When a refusal is given
 
@@ -124,7 +129,9 @@ module _ (row : List ℕ) where
   unfolding refusal
   passed-checked e = go (checked row) refl e
     where
-      go : (o : Outcome) → checked row ≡ o → orElse o (orElse (fine (entries row)) (short (tick (entries row)) (entries row))) ≡ Passed → checked row ≡ Passed
+      go :
+          (o : Outcome) → checked row ≡ o →
+          orElse o (orElse (fine (entries row)) (short (tick (entries row)) (entries row))) ≡ Passed → checked row ≡ Passed
       go Passed q e = q
       go (Refused r) q e = let z : _≡_ {A = ℕ} 0 1 = cc in absurd (omega arith)
 
@@ -136,7 +143,9 @@ module _ (row : List ℕ) where
   trains-length = length-map (entries row) (trainOf (tick (entries row)))
 
   -- the train at a position is the entry there, in ticks
-  pub trains-at : (i : ℕ) → i < length (entries row) → getD (trains row) i noTrain ≡ trainOf (tick (entries row)) (getD (entries row) i noEntry)
+  pub trains-at :
+      (i : ℕ) → i < length (entries row) →
+      getD (trains row) i noTrain ≡ trainOf (tick (entries row)) (getD (entries row) i noEntry)
   unfolding trains
   trains-at i h = getD-map (trainOf (tick (entries row))) (entries row) i noEntry noTrain h
 
@@ -153,10 +162,13 @@ module _ (row : List ℕ) where
 
     module _ (i : ℕ) (h : i < length (entries row)) where
       -- one time
-      exact-time : (f : Fraction) → ((k : ℕ) × (wholeTicks f (tick (entries row)) ≡ Whole k)) → IsTicks f (tick (entries row)) (ticksOf (tick (entries row)) f)
+      exact-time :
+          (f : Fraction) → ((k : ℕ) × (wholeTicks f (tick (entries row)) ≡ Whole k)) →
+          IsTicks f (tick (entries row)) (ticksOf (tick (entries row)) f)
       exact-time f (k, w) = ticks-exact f (tick (entries row)) (ticksOf (tick (entries row)) f) (w ∙ ap (λ t. Whole (whole t)) (sym w))
 
-      exact-entry : ExactTrain (tick (entries row)) (getD (entries row) i noEntry) (trainOf (tick (entries row)) (getD (entries row) i noEntry))
+      exact-entry :
+          ExactTrain (tick (entries row)) (getD (entries row) i noEntry) (trainOf (tick (entries row)) (getD (entries row) i noEntry))
       exact-entry =
           let w = ticks-at (entries row) i (passed-sound e) h in
           record { phase = exact-time _ (w .phase); period = exact-time _ (w .period); duration = exact-time _ (w .duration) }
@@ -169,12 +181,13 @@ module _ (row : List ℕ) where
           let s = passed-sound e i h in
           let x = exact-entry in
           let l = multiple-pos (entries row) (passed-sound e) in
+          let above = above-ticks _ _ (tick (entries row)) _ _ (s .duration) (s .period) (omega arith) l (x .duration) (x .period) in
           let few : (k : ℕ) → (maxTicks < k → ⊥) → k ≤ maxTicks = λ k f. not-above (decLe k maxTicks) f in
           record {
             strict =
                 record {
                   some = some-ticks _ _ _ (x .duration) (mul-pos (s .some-duration) l);
-                  fits = not-above (decLe _ _) (λ lt. eq-false-eq-not-eq-true _ .1 (s .fits) (above-ticks _ _ (tick (entries row)) _ _ (s .duration) (s .period) (omega arith) l (x .duration) (x .period) .1 lt));
+                  fits = not-above (decLe _ _) (λ lt. eq-false-eq-not-eq-true _ .1 (s .fits) (above .1 lt));
                 };
             period = few _ (λ lt. none (TimeTooLong i) (h, inr (inl (_, x .period, lt))));
             phase = few _ (λ lt. none (TimeTooLong i) (h, inl (_, x .phase, lt)));

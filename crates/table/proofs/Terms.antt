@@ -2,10 +2,10 @@
 -- Core: entry-lowest, long-lowest, denominators-lowest, train-lowest. The rest follows from these.
 -- Assumes nothing.
 use Prim.Native.Nat.{ℕ, zero, suc, _*_, _/_, _%_, _<_, _≤_}
-use mathlib.Core.Path.{_≡_, refl, sym, ap, subst, fun-ext, _∙_}
+use mathlib.Core.Path.{_≡_, refl, sym, ap, fun-ext, _∙_}
 use mathlib.Core.Bool.{Bool, true, false, not, _||_}
-use mathlib.Core.Logic.{_⊎_, inl, inr}
-use mathlib.Core.List.{List, [], _∷_, _++_, map}
+use mathlib.Core.Logic.{inl, inr}
+use mathlib.Core.List.{List, [], _∷_, map}
 use native.Mathlib.Nat.{mul-pos}
 use native.Mathlib.Decide.{decLe}
 use native.Mathlib.Omega.{arith}
@@ -14,16 +14,14 @@ use lib.ListN.{length, getD, take, length-map}
 use borrow.Author.Tests.{eqb-false, ne-eqb}
 use Rattle.refusal.specs.declared.Refusal.the-variants.{TrainCount, ZeroDenominator, ZeroTime, DurationAbovePeriod, TickTooFine}
 use Rattle.fraction.specs.declared.Fraction.{Fraction}
-use Rattle.fraction.specs.Value.{SameValue, LowestTerms}
 use Rattle.fraction.specs.Answer.{lowest, above, commonMultiple, running}
 use Rattle.fraction.proofs.Lowest.{lowest-none, lowest-same, lowest-terms, lowest-only, lowest-twice, same-trans}
 use Rattle.fraction.proofs.WholeTicks.{ticks-lowest}
 use Rattle.fraction.proofs.Order.{above-same}
-use Rattle.train.specs.declared.Train.{Train}
 use Rattle.table.specs.declared.Entry.{Entry}
 use Rattle.table.specs.declared.Outcome.{Outcome}
 use Rattle.table.specs.declared.Reading.{Reading}
-use Rattle.table.specs.Row.{numbers, longestRow, noEntry, entries, denominatorsOf, denominators, tick, trainOf, SameTime, SameEntry, SameRow}
+use Rattle.table.specs.Row.{numbers, longestRow, noEntry, entries, denominators, tick, trainOf, SameTime, SameEntry, SameRow}
 use Rattle.table.specs.Answer.{test, orElse, firstRefusal, noDenominator, noTime, entryCheck, checked, isAbove, fineCheck, fine, tooLong, longCheck, short, refusal, filled, tableOf, readAfter, reading}
 use Rattle.table.proofs.Entries.{entries-length}
 use Rattle.table.proofs.Exactly.{false-not-true}
@@ -103,7 +101,8 @@ neither : (b c : Bool) → (b || c) ≡ false → (b ≡ false) × (c ≡ false)
 neither false c e = (refl, e)
 neither true c e = absurd (false-not-true (sym e))
 
-above-lowest-entry : (e : Entry) → noDenominator e ≡ false → above (lowest (e .duration)) (lowest (e .period)) ≡ above (e .duration) (e .period)
+above-lowest-entry :
+    (e : Entry) → noDenominator e ≡ false → above (lowest (e .duration)) (lowest (e .period)) ≡ above (e .duration) (e .period)
 unfolding noDenominator
 above-lowest-entry e q =
     let others =
@@ -120,7 +119,10 @@ entry-lowest i e =
     chain d t a = orElse (test d (ZeroDenominator i)) (orElse (test t (ZeroTime i)) (test a (DurationAbovePeriod i)))
 
     -- the order is looked at only where there are denominators
-    go : (d : Bool) → noDenominator e ≡ d → chain (noDenominator e) (noTime e) (above (lowest (e .duration)) (lowest (e .period))) ≡ chain (noDenominator e) (noTime e) (above (e .duration) (e .period))
+    go :
+        (d : Bool) → noDenominator e ≡ d →
+        chain (noDenominator e) (noTime e) (above (lowest (e .duration)) (lowest (e .period)))
+        ≡ chain (noDenominator e) (noTime e) (above (e .duration) (e .period))
     go true q =
         ap (λ (d : Bool). chain d (noTime e) (above (lowest (e .duration)) (lowest (e .period)))) q
         ∙ sym (ap (λ (d : Bool). chain d (noTime e) (above (e .duration) (e .period))) q)
@@ -141,7 +143,9 @@ train-lowest tick e = rw (ticks-lowest (e .phase) tick, ticks-lowest (e .period)
 -- ---- The whole reading
 
 -- a check that does not see the terms finds the same
-first-lowest : (check : ℕ → Entry → Outcome) → ((i : ℕ) (e : Entry) → check i (lowestEntry e) ≡ check i e) → (i : ℕ) (es : List Entry) → firstRefusal check i (map lowestEntry es) ≡ firstRefusal check i es
+first-lowest :
+    (check : ℕ → Entry → Outcome) → ((i : ℕ) (e : Entry) → check i (lowestEntry e) ≡ check i e) → (i : ℕ) (es : List Entry) →
+    firstRefusal check i (map lowestEntry es) ≡ firstRefusal check i es
 unfolding firstRefusal
 first-lowest check same i [] = refl
 first-lowest check same i (e ∷ es) = λ j. orElse (same i e j) (first-lowest check same (suc i) es j)
@@ -154,7 +158,12 @@ take-lowest (suc n) (e ∷ es) = ap (λ (fs : List Entry). lowestEntry e ∷ fs)
 fine-lowest : (es : List Entry) → fine (map lowestEntry es) ≡ fine es
 fine-lowest es =
     ap (λ (check : ℕ → Entry → Outcome). firstRefusal check 0 (map lowestEntry es))
-    (fun-ext (λ i. fun-ext (λ e. ap (λ (ds : List ℕ). test (isAbove (running ds)) (TickTooFine i)) (ap denominators (take-lowest (suc i) es) ∙ denominators-lowest (take (suc i) es)))))
+    (fun-ext
+    (λ i.
+    fun-ext
+    (λ e.
+    ap (λ (ds : List ℕ). test (isAbove (running ds)) (TickTooFine i))
+    (ap denominators (take-lowest (suc i) es) ∙ denominators-lowest (take (suc i) es)))))
     ∙ first-lowest (fineCheck es) (λ i e. refl) 0 es
 
 trains-lowest : (tick : Fraction) (es : List Entry) → map (trainOf tick) (map lowestEntry es) ≡ map (trainOf tick) es
@@ -177,7 +186,8 @@ reading-of row = refl
 reading-lowest : (n : ℕ) (es : List Entry) → readingOf n (map lowestEntry es) ≡ readingOf n es
 unfolding readingOf
 reading-lowest n es =
-    let tick-same : tick (map lowestEntry es) ≡ tick es = ap (λ (ds : List ℕ). record { numerator = 1; denominator = commonMultiple ds }) (denominators-lowest es) in
+    let tick-same : tick (map lowestEntry es) ≡ tick es =
+    ap (λ (ds : List ℕ). record { numerator = 1; denominator = commonMultiple ds }) (denominators-lowest es) in
     let trains-same : map (trainOf (tick (map lowestEntry es))) (map lowestEntry es) ≡ map (trainOf (tick es)) es =
     ap (λ (t : Fraction). map (trainOf t) (map lowestEntry es)) tick-same ∙ trains-lowest (tick es) es in
     let short-same : short (tick (map lowestEntry es)) (map lowestEntry es) ≡ short (tick es) es =
@@ -185,7 +195,8 @@ reading-lowest n es =
     λ j.
     readAfter
     (orElse
-    (orElse (test (not (eqb (n % numbers) 0)) TrainCount) (orElse (test (ltb longestRow n) TrainCount) (first-lowest entryCheck entry-lowest 0 es j)))
+    (orElse (test (not (eqb (n % numbers) 0)) TrainCount)
+    (orElse (test (ltb longestRow n) TrainCount) (first-lowest entryCheck entry-lowest 0 es j)))
     (orElse (fine-lowest es j) (short-same j)))
     (record { tick = tick-same j; count = length-map es lowestEntry j; trains = filled (trains-same j) })
 

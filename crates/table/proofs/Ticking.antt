@@ -26,7 +26,7 @@ use Rattle.table.specs.declared.Timed.{Timed}
 use Rattle.table.specs.declared.Timed.the-variants as trains
 use Rattle.table.specs.declared.Outcome.{Outcome}
 use Rattle.table.specs.declared.Outcome.the-variants.{Passed, Refused}
-use Rattle.table.specs.Row.{capacity, noEntry, whole, ticksOf, trainOf}
+use Rattle.table.specs.Row.{capacity, noEntry, whole, trainOf}
 use Rattle.table.specs.Answer.{test, tooMany, tooLong, longCheck, noTrain, filled, tableOf, refused, readAfter}
 use Rattle.table.specs.Inside.{timed, withTime, trainTimed, readTicks}
 use Rattle.table.proofs.Checks.{Passing, passing-begins, passing-on, passing-refused, passing-ends}

@@ -9,7 +9,6 @@ use Rattle.fraction.specs.declared.Fraction.{Fraction}
 use Rattle.fraction.specs.declared.Ticks.{Ticks}
 use Rattle.fraction.specs.declared.Ticks.the-variants.{NotWhole, Whole}
 use Rattle.fraction.specs.Answer.{wholeTicks}
-use Rattle.train.specs.declared.Train.{Train}
 use Rattle.train.specs.Claims.{maxTicks}
 use Rattle.table.specs.declared.Entry.{Entry}
 use Rattle.table.specs.declared.Time.{Time}

@@ -26,7 +26,9 @@ pub record Promises : Type 0 where
   pub checked-exactly : (row : List ℕ) (r : Refusal) → (checked row ≡ Refused r) ↔ (Given row r × (stage r ≤ 1))
   pub checked-passed : (row : List ℕ) → (checked row ≡ Passed) ↔ ((r : Refusal) → stage r ≤ 1 → Condition row r → ⊥)
   -- F2. The tick is 1/L, where L is the least common multiple of all denominators after reduction, and is at most 1,000,000.
-  pub tick-multiple : (row : List ℕ) → (tick (entries row) .numerator ≡ 1) × IsCommonMultiple (denominators (entries row)) (tick (entries row) .denominator)
+  pub tick-multiple :
+      (row : List ℕ) →
+      (tick (entries row) .numerator ≡ 1) × IsCommonMultiple (denominators (entries row)) (tick (entries row) .denominator)
   pub tick-limit : (row : List ℕ) → refusal row ≡ Passed → tick (entries row) .denominator ≤ limit
   -- F3. The trains of a row that passes are its times in ticks, with nothing lost; there are at most 64, each within the limits.
   pub trains-count : (row : List ℕ) → refusal row ≡ Passed → (length (trains row) ≡ length (entries row)) × (length (trains row) ≤ capacity)

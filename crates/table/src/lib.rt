@@ -309,7 +309,11 @@ fn read_ticks(row: &[u32], tick: Fraction) -> Reading
 // The table of a row, or its refusal: 1; then train by train 2, 3 and 4; then 5 over the table; then 6.
 pub fn read(row: &[u32]) -> Reading
     ensures { λ r. ⌜ r ≡ reading (now (row .entry)) ⌝ }
-    ensures constants { λ _. do ⌜ ((← ⟦Table::CAPACITY⟧ .entry) ≡ capacity) × ((← ⟦Table::NUMBERS⟧ .entry) ≡ numbers) × ((← ⟦Table::LONGEST_ROW⟧ .entry) ≡ longestRow) × ((← ⟦Table::RECORD_LENGTH⟧ .entry) ≡ recordLength) ⌝ }
+    ensures constants { λ _. do
+      ⌜ ((← ⟦Table::CAPACITY⟧ .entry) ≡ capacity)
+          × ((← ⟦Table::NUMBERS⟧ .entry) ≡ numbers)
+          × ((← ⟦Table::LONGEST_ROW⟧ .entry) ≡ longestRow)
+          × ((← ⟦Table::RECORD_LENGTH⟧ .entry) ≡ recordLength) ⌝ }
 {
     let checked = check(row);
     match checked {

@@ -36,8 +36,11 @@ returns : tie.Need-returns Inv-loop μ-loop
 returns c =
     let calls = c .before .before in
     let turn = calls .before .before in
-    let next = calls .multiple .ensures ∙ ap (λ (e : Entry). runningFrom (Within (turn .before .loop .multiple)) (denominatorsOf e)) (calls .before .at .ensures) in
-    (running-refused _ _ _ (turn .before .loop .inv) _ (entries-in _ _ (turn .loop-test .taken)) next (c .enum-told .given .1), λ passed. absurd (refused-not-passed _ passed))
+    let next =
+    calls .multiple .ensures
+    ∙ ap (λ (e : Entry). runningFrom (Within (turn .before .loop .multiple)) (denominatorsOf e)) (calls .before .at .ensures) in
+    let here = entries-in _ _ (turn .loop-test .taken) in
+    (running-refused _ _ _ (turn .before .loop .inv) _ here next (c .enum-told .given .1), λ passed. absurd (refused-not-passed _ passed))
 
 enum-known-next : tie.Need-enum-known-next Inv-loop μ-loop
 enum-known-next c = search needs
@@ -53,7 +56,9 @@ loop-again c =
     let told = c .before in
     let calls = told .before .before in
     let turn = calls .before .before in
-    let next = calls .multiple .ensures ∙ ap (λ (e : Entry). runningFrom (Within (turn .before .loop .multiple)) (denominatorsOf e)) (calls .before .at .ensures) in
+    let next =
+    calls .multiple .ensures
+    ∙ ap (λ (e : Entry). runningFrom (Within (turn .before .loop .multiple)) (denominatorsOf e)) (calls .before .at .ensures) in
     running-on _ _ _ (turn .before .loop .inv) _ _ (entries-in _ _ (turn .loop-test .taken)) next (told .next .given .1)
 
 returns-2 : tie.Need-returns-2 Inv-loop μ-loop
