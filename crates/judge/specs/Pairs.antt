@@ -5,6 +5,8 @@
 --     Before p q              pair p comes before pair q in the order (0,1), (0,2) .. (1,2) ..
 --     PairOf n p              p is a pair of n trains, the smaller position first
 --     FirstPair ts p          p is the first pair that collides
+--     pairsWith i j count     the pairs of first position i and so many second ones, from j on
+--     pairsFrom i count       the pairs of so many positions, from i on
 --     pairs n                 all pairs of n trains, in that order
 --     In p ps                 p is one of some pairs
 --     divisionsOf train p     the division count of one pair

@@ -63,7 +63,7 @@ fn scan(trains: [Train; Table::CAPACITY], count: usize) -> Found
     Found::Free(divisions)
 }
 
-// The earliest tick of a pair that collides.
+// The earliest tick of two trains. It is asked for a pair that collides, which has one; 0 stands for none.
 fn tick(a: Train, b: Train) -> u64
     ensures { λ r. ⌜ r ≡ tickOf (earliest a b) ⌝ }
 {

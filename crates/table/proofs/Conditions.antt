@@ -1,14 +1,13 @@
 -- Refusals 1 to 6 are given exactly when the paper says.
 -- Core: entry-exact, fine-exact, long-exact, one for each stage of the order. The rest follows from these.
 -- Assumes nothing.
-use Prim.Native.Nat.{ℕ, zero, suc, _+_, _%_, _<_, _≤_, _∣_}
+use Prim.Native.Nat.{ℕ, _+_, _%_, _<_, _≤_, _∣_}
 use mathlib.Core.Path.{_≡_, refl, sym, ap, subst}
 use mathlib.Core.Bool.{Bool, true, false, not, _||_}
 use mathlib.Core.Logic.{_↔_, _⊎_, inl, inr, ⊎-elim}
 use mathlib.Core.List.{List}
 use mathlib.Mathlib.Data.Bool.Basic.{eq-false-eq-not-eq-true}
-use native.Mathlib.Nat.{mod-eq-zero-of-dvd, dvd-of-mod-eq-zero}
-use native.Mathlib.Decide.{decLe}
+use native.Mathlib.Nat.{mod-eq-zero-of-dvd, dvd-of-mod-eq-zero, pos-of-ne-zero, lt-of-not-le}
 use native.Mathlib.Omega.{arith}
 use lib.Dec.{ltb, eqb}
 use lib.ListN.{length, getD}
@@ -209,32 +208,21 @@ pub record Sound (e : Entry) : Type 0 where
 abbrev pub AllSound : List Entry → Type 0
 AllSound es = (k : ℕ) → k < length es → Sound (getD es k noEntry)
 
-positive : (n : ℕ) → (n ≡ 0 → ⊥) → 0 < n
-positive zero f = absurd (f refl)
-positive (suc n) f = omega arith
+-- a number that is not above another
+pub not-above : {m n : ℕ} → (n < m → ⊥) → m ≤ n
+not-above f = omega (arith, lt-of-not-le f)
 
 pub checked-sound : (row : List ℕ) → checked row ≡ Passed → AllSound (entries row)
 checked-sound row e k h =
     let none : (r : Refusal) → EntryCondition k (getD (entries row) k noEntry) r → ⊥ = λ r c. checked-exact row .passed e r (inr (k, h, c)) in
     record {
-      phase = positive _ (λ z. none (ZeroDenominator k) (inl (refl, inl z)));
-      period = positive _ (λ z. none (ZeroDenominator k) (inl (refl, inr (inl z))));
-      duration = positive _ (λ z. none (ZeroDenominator k) (inl (refl, inr (inr z))));
-      some-period = positive _ (λ z. none (ZeroTime k) (inr (inl (refl, inl z))));
-      some-duration = positive _ (λ z. none (ZeroTime k) (inr (inl (refl, inr z))));
+      phase = pos-of-ne-zero (λ z. none (ZeroDenominator k) (inl (refl, inl z)));
+      period = pos-of-ne-zero (λ z. none (ZeroDenominator k) (inl (refl, inr (inl z))));
+      duration = pos-of-ne-zero (λ z. none (ZeroDenominator k) (inl (refl, inr (inr z))));
+      some-period = pos-of-ne-zero (λ z. none (ZeroTime k) (inr (inl (refl, inl z))));
+      some-duration = pos-of-ne-zero (λ z. none (ZeroTime k) (inr (inl (refl, inr z))));
       fits = eq-false-eq-not-eq-true _ .0 (λ t. none (DurationAbovePeriod k) (inr (inr (refl, t))));
     }
 
-pub checked-whole : (row : List ℕ) → checked row ≡ Passed → (numbers ∣ length row) × (length row ≤ longestRow)
-checked-whole row e =
-    let none : ((numbers ∣ length row → ⊥) ⊎ (longestRow < length row)) → ⊥ = λ c. checked-exact row .passed e TrainCount (inl (refl, c)) in
-    let no-rest = zero-of (length row % numbers) (λ f. none (inl (λ d. f (mod-eq-zero-of-dvd numbers d)))) in
-    (dvd-of-mod-eq-zero numbers no-rest, not-above (decLe (length row) longestRow) (λ l. none (inr l)))
-  where
-    zero-of : (n : ℕ) → ((n ≡ 0 → ⊥) → ⊥) → n ≡ 0
-    zero-of zero f = refl
-    zero-of (suc n) f = absurd (f (λ z. omega arith))
-
-    not-above : Dec (length row ≤ longestRow) → (longestRow < length row → ⊥) → length row ≤ longestRow
-    not-above (yes h) f = h
-    not-above (no h) f = absurd (f (omega arith))
+pub checked-length : (row : List ℕ) → checked row ≡ Passed → length row ≤ longestRow
+checked-length row e = not-above (λ l. checked-exact row .passed e TrainCount (inl (refl, inr l)))

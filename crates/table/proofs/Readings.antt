@@ -7,7 +7,6 @@ use mathlib.Core.Logic.{_↔_, inl, inr}
 use mathlib.Core.List.{List, [], _∷_, map}
 use mathlib.Mathlib.Data.Bool.Basic.{eq-false-eq-not-eq-true}
 use native.Mathlib.Nat.{mul-pos}
-use native.Mathlib.Decide.{decLe}
 use native.Mathlib.Omega.{arith}
 use lib.ListN.{length, getD, take, length-map}
 use lib.Seq.{take-all}
@@ -21,7 +20,7 @@ use Rattle.fraction.specs.Answer.{wholeTicks, limit, commonMultiple, running}
 use Rattle.fraction.proofs.CommonMultiple.{running-within}
 use Rattle.fraction.proofs.WholeTicks.{ticks-exact}
 use Rattle.fraction.proofs.Order.{above-ticks}
-use Rattle.train.specs.Claims.{Limits, maxTicks}
+use Rattle.train.specs.Claims.{Limits}
 use Rattle.table.specs.declared.Entry.{Entry}
 use Rattle.table.specs.declared.Outcome.{Outcome}
 use Rattle.table.specs.declared.Outcome.the-variants.{Passed, Refused}
@@ -33,14 +32,10 @@ use Rattle.table.specs.Inside.{readTicks}
 use Rattle.table.proofs.Entries.{entries-few}
 use Rattle.table.proofs.Order.{earlier-stage}
 use Rattle.table.proofs.Exactly.{Exact, exact-same, exact-refused, exact-passed}
-use Rattle.table.proofs.Conditions.{AllSound, checked-sound, checked-whole, checked-exact, checked-condition}
+use Rattle.table.proofs.Conditions.{AllSound, checked-sound, checked-length, checked-exact, checked-condition, not-above}
 use Rattle.table.proofs.Limits.{multiple-pos, ticks-at, refusal-exact}
 
 -- ---- Core laws
-
-not-above : {m n : ℕ} → Dec (m ≤ n) → (n < m → ⊥) → m ≤ n
-not-above (yes h) f = h
-not-above (no h) f = absurd (f (omega arith))
 
 -- where no train passes the limit, L does not
 all-within : (es : List Entry) → ((i : ℕ) → i < length es → multiple (take (suc i) es) ≤ limit) → multiple es ≤ limit
@@ -155,10 +150,10 @@ module _ (row : List ℕ) where
 
     pub passed-limit : multiple (entries row) ≤ limit
     passed-limit =
-        all-within (entries row) (λ i h. not-above (decLe (multiple (take (suc i) (entries row))) limit) (λ l. none (TickTooFine i) (h, l)))
+        all-within (entries row) (λ i h. not-above (λ l. none (TickTooFine i) (h, l)))
 
     pub passed-few : length (entries row) ≤ capacity
-    passed-few = entries-few row (checked-whole row (passed-checked e) .1)
+    passed-few = entries-few row (checked-length row (passed-checked e))
 
     module _ (i : ℕ) (h : i < length (entries row)) where
       -- one time
@@ -182,15 +177,14 @@ module _ (row : List ℕ) where
           let x = exact-entry in
           let l = multiple-pos (entries row) (passed-sound e) in
           let above = above-ticks _ _ (tick (entries row)) _ _ (s .duration) (s .period) (omega arith) l (x .duration) (x .period) in
-          let few : (k : ℕ) → (maxTicks < k → ⊥) → k ≤ maxTicks = λ k f. not-above (decLe k maxTicks) f in
           record {
             strict =
                 record {
                   some = some-ticks _ _ _ (x .duration) (mul-pos (s .some-duration) l);
-                  fits = not-above (decLe _ _) (λ lt. eq-false-eq-not-eq-true _ .1 (s .fits) (above .1 lt));
+                  fits = not-above (λ lt. eq-false-eq-not-eq-true _ .1 (s .fits) (above .1 lt));
                 };
-            period = few _ (λ lt. none (TimeTooLong i) (h, inr (inl (_, x .period, lt))));
-            phase = few _ (λ lt. none (TimeTooLong i) (h, inl (_, x .phase, lt)));
+            period = not-above (λ lt. none (TimeTooLong i) (h, inr (inl (_, x .period, lt))));
+            phase = not-above (λ lt. none (TimeTooLong i) (h, inl (_, x .phase, lt)));
           }
 
       pub passed-limits : Limits (getD (trains row) i noTrain)

@@ -6,7 +6,7 @@ use mathlib.Core.Path.{_≡_, refl, sym, ap, fun-ext, _∙_}
 use mathlib.Core.Bool.{Bool, true, false, not, _||_}
 use mathlib.Core.Logic.{inl, inr}
 use mathlib.Core.List.{List, [], _∷_, map}
-use native.Mathlib.Nat.{mul-pos}
+use native.Mathlib.Nat.{mul-pos, pos-of-ne-zero}
 use native.Mathlib.Decide.{decLe}
 use native.Mathlib.Omega.{arith}
 use lib.Dec.{eqb, ltb}
@@ -80,13 +80,9 @@ numerator-zero f = go (decLe 1 (f .denominator))
 
 above-lowest : (f h : Fraction) → eqb (f .denominator) 0 ≡ false → eqb (h .denominator) 0 ≡ false → above (lowest f) (lowest h) ≡ above f h
 above-lowest f h ef eh =
-    let pf : 0 < f .denominator = positive (f .denominator) (eqb-false (f .denominator) 0 ef) in
-    let ph : 0 < h .denominator = positive (h .denominator) (eqb-false (h .denominator) 0 eh) in
+    let pf : 0 < f .denominator = pos-of-ne-zero (eqb-false (f .denominator) 0 ef) in
+    let ph : 0 < h .denominator = pos-of-ne-zero (eqb-false (h .denominator) 0 eh) in
     sym (above-same f (lowest f) h (lowest h) pf (lowest-terms f pf .positive) ph (lowest-terms h ph .positive) (lowest-same f) (lowest-same h))
-  where
-    positive : (n : ℕ) → (n ≡ 0 → ⊥) → 0 < n
-    positive zero z = absurd (z refl)
-    positive (suc n) z = omega arith
 
 no-denominator-lowest : (e : Entry) → noDenominator (lowestEntry e) ≡ noDenominator e
 unfolding noDenominator

@@ -1,13 +1,24 @@
 -- The functions that the contracts cite. Promises says what they have to do with the words of Row and Given.
 --     test b r                one refusal: r where the test says so
 --     orElse o p              the first of two outcomes that is a refusal
---     noDenominator e, noTime e, tooLong tick e     whether the conditions of 2, 3 and 6 hold of a train
---     entryCheck i e          refusals 2, 3, 4 of the train at position i
---     fineCheck es i e        refusal 5 of the train at position i
---     longCheck tick i e      refusal 6 of the train at position i
---     firstRefusal check i es    the first refusal of some trains, the first of which is at position i
+--     firstRefusal check i es the first refusal of some trains, the first of which is at position i
+--     noDenominator e         whether a denominator is 0
+--     noTime e                whether period or duration is 0
+--     entryCheck i e          refusals 2, 3, 4 of the train at position i, as `Entry::check` answers them
 --     checked row             refusals 1 to 4, as `check` answers them
+--     isAbove m               whether a multiple is above the limit
+--     fineCheck es i e        refusal 5 of the train at position i
+--     fine es                 refusal 5 of a table
+--     tooMany ticks           whether a time is not within the limit
+--     tooLong tick e          whether a train has such a time
+--     longCheck tick i e      refusal 6 of the train at position i
+--     short tick es           refusal 6 of a table
 --     refusal row             refusals 1 to 6
+--     noTrain                 what stands in the array where there is no train
+--     filled ts               the array of some trains
+--     tableOf tick es         the table of some trains as fractions
+--     refused r               what is read after a refusal
+--     readAfter o table       a table, or the refusal that there is
 --     reading row             the table of a row, as `read` answers it
 use Prim.Native.Nat.{ℕ, suc, _-_, _%_}
 use mathlib.Core.Bool.{Bool, true, false, not, _||_}
@@ -29,7 +40,7 @@ use Rattle.table.specs.declared.Outcome.{Outcome}
 use Rattle.table.specs.declared.Outcome.the-variants.{Passed, Refused}
 use Rattle.table.specs.declared.Table.{Table}
 use Rattle.table.specs.declared.Reading.{Reading}
-use Rattle.table.specs.Row.{capacity, numbers, longestRow, entries, denominators, tick, trainOf, trains}
+use Rattle.table.specs.Row.{capacity, numbers, longestRow, entries, denominators, tick, trainOf}
 
 -- One refusal, where its test says so.
 abbrev pub test : Bool → Refusal → Outcome

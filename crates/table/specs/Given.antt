@@ -1,4 +1,9 @@
 -- When each refusal of a table is given: the paper's table "Refusal numbers", numbers 1 to 6, and its order.
+--     NoDenominator e         a denominator is 0
+--     NoTime e                period or duration is 0
+--     TooManyTicks tick time  a time is more than 10,000,000 ticks
+--     TooLong tick e          a train has such a time
+--     At es i P               the train at position i has a property
 --     Condition row r         the paper's condition for refusal r holds of the row
 --     stage r                 1; then train by train 2, 3, 4; then 5 over the table; then 6
 --     Earlier r s             refusal r comes before s in that order
@@ -58,7 +63,7 @@ Condition row (Collision i) = ⊥
 Condition row NoTrainThere = ⊥
 Condition row WrongCount = ⊥
 
--- Order. 1; then train by train 2, 3, 4; then 5 over the table; then 6.
+-- Order. 1; then train by train 2, 3, 4; then 5 over the table; then 6; and then what is no refusal of a table.
 abbrev pub stage : Refusal → ℕ
 stage TrainCount = 0
 stage (ZeroDenominator i) = 1

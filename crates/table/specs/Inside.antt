@@ -1,5 +1,6 @@
 -- What the private functions of the reading answer. No public contract cites this file, and no caller need read it.
 --     timed ticks             a time in ticks, against the limit
+--     withTime time next      what follows a time that is not too long
 --     trainTimed tick e       a train in ticks, against the limit
 --     readTicks tick es       the table of some trains in a given tick, or refusal 6
 use mathlib.Core.Bool.{cond}

@@ -1,5 +1,5 @@
 -- What table promises. Read Row (a row, its tick and its trains), Given (when each refusal is given), Answer (the functions),
--- then Promises (what is proved of them).
+-- then Promises (what is proved of them). Inside is for the private functions alone.
 pub mod Row
 pub mod Given
 pub mod Answer

@@ -4,17 +4,21 @@
 --     longestRow              the numbers of the longest row
 --     recordLength            the bytes of a train in a stored table
 --     timeAt row at           the fraction whose numerator stands at an index
---     firstEntry row          the phase, period and duration of the train at the head of a row
---     entries row             the trains of a row as fractions, in their order
+--     entryAt row at          the phase, period and duration of the train whose numbers begin at an index
+--     entriesOf n row         the first n trains of a row as fractions
+--     entries row             all its trains as fractions, in their order
 --     noEntry                 what stands for an entry where there is none
---     denominators es         the denominators of all times after reduction
+--     denominatorsOf e        the denominators of one train after reduction
+--     denominators es         those of all trains
 --     multiple es             the paper's L
 --     tick es                 the common tick, 1/L ms
+--     whole ticks             the number of a whole number of ticks
 --     ticksOf tick time       how many ticks a time is
 --     trainOf tick e          a train in ticks
 --     trains row              the trains of a row in ticks of its own tick
 --     ExactTrain tick e t     train t is entry e in ticks, with nothing lost
 --     SameTime f h            two fractions stand for one time
+--     SameEntry e f           two trains whose times are the same
 --     SameRow row row′        two rows that differ at most in the terms of their fractions
 use Prim.Native.Nat.{ℕ, zero, suc, _+_, _*_, _/_, _<_}
 use mathlib.Core.Path.{_≡_}

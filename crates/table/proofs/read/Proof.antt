@@ -1,7 +1,7 @@
 -- `read` meets its contract: the checks one after another, then the trains in ticks of 1/L.
 -- Assumes nothing.
 use mathlib.Core.Path.{refl, sym, _∙_}
-use Rattle.table.proofs.Conditions.{checked-whole}
+use Rattle.table.proofs.Conditions.{checked-length}
 use Rattle.table.proofs.Readings.{read-checked, read-fine, read-rest}
 use borrow.Author.Needs.{needs}
 use Rattle.table.proofs.read.Statement.{statement}
@@ -49,7 +49,7 @@ enum-told-2 c = search needs
 read-ticks-requires : tie.Need-read-ticks-requires
 read-ticks-requires c κs =
     let passed = c .before .before .before in
-    checked-whole _ (sym (passed .before .before .check .ensures) ∙ passed .enum-told .given .1) .1
+    checked-length _ (sym (passed .before .before .check .ensures) ∙ passed .enum-told .given .1)
 
 returns-3 : tie.Need-returns-3
 returns-3 c =
