@@ -14,7 +14,7 @@ use std::process::ExitCode;
 
 const USAGE: &str = "\
 usage: second ground             what the program `ground` has to print
-       second sheet              the lines of the tables of the Bench sheet, in order
+       second sheet              the lines of the tables of the bench sheet, in order
        second sheet-rows         the rows of those tables, as bytes
        second rows SEED CASES    rows drawn from the seed, as bytes: for each row its length in two
                                  and then each number in four, most significant byte first
@@ -49,8 +49,8 @@ fn main() -> ExitCode {
 fn run(words: &[&str], out: &mut impl Write) -> Option<Result<()>> {
     match words {
         ["ground"] => Some(out.write_all(ground::expected().as_bytes())),
-        ["sheet"] => Some(sheet::ROWS.iter().try_for_each(|row| out.write_all(tables::line(row).as_bytes()))),
-        ["sheet-rows"] => Some(sheet::ROWS.iter().try_for_each(|row| out.write_all(&rows::bytes(row)))),
+        ["sheet"] => Some(sheet::rows().try_for_each(|row| out.write_all(tables::line(&row).as_bytes()))),
+        ["sheet-rows"] => Some(sheet::rows().try_for_each(|row| out.write_all(&rows::bytes(&row)))),
         [command, seed, cases] => drawn(command, seed.parse().ok()?, cases.parse().ok()?, out),
         _ => None,
     }

@@ -1,4 +1,4 @@
-// Judges each table of the paper's Bench sheet, in its order, and prints the line of its verdict.
+// Judges each table of the paper's bench sheet, in its order, and prints the line of its verdict.
 // Nothing is decided here, so nothing is promised but that it ends safely.
 use line::Written;
 
