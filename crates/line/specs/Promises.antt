@@ -1,4 +1,4 @@
--- What is proved of the lines; proofs/Promises.antt proves the whole record.
+-- What is proved of the printed lines, a line each; proofs/Promises.antt proves the whole record.
 use Prim.Native.Nat.{ℕ, _≤_}
 use mathlib.Core.Path.{_≡_}
 use mathlib.Core.List.{List, [], _∷_}
@@ -8,16 +8,16 @@ use Rattle.line.specs.Text.{IsDecimal, Within}
 use Rattle.line.specs.Answer.{decimal, line, longest}
 
 pub record Promises : Type 0 where
-  -- L1. What is printed for a number is its decimal notation, and there is no other.
+  -- V6. What is printed for a number is its decimal notation, and there is no other.
   pub decimal-is : (n : ℕ) → IsDecimal n (decimal n)
   pub decimal-only : (n : ℕ) (ds : List ℕ) → IsDecimal n ds → ds ≡ decimal n
-  -- L2. Nothing is lost in print: two lines of the same bytes have the same word and the same numbers.
+  -- Nothing is lost in print: two lines of the same bytes have the same word and the same numbers.
   pub line-tells : (s t : Shown) → line s ≡ line t → s ≡ t
-  -- L3. No line of numbers within their types is longer than the longest, and one is as long.
+  -- No line of numbers within their types is longer than the longest, and one is as long.
   pub line-fits : (s : Shown) → Within s → length (line s) ≤ longest
   pub line-reaches :
       length (line (collide 18446744073709551615 18446744073709551615 18446744073709551615 4294967295 4294967295)) ≡ longest
-  -- L4. Examples: `accept 13 1`, `collide 0 1 16 1 2` and `refuse 4 0`, each with its newline.
+  -- Examples: `accept 13 1`, `collide 0 1 16 1 2` and `refuse 4 0`, each with its newline.
   pub accept-example :
       line (accept 13 1) ≡ 97 ∷ 99 ∷ 99 ∷ 101 ∷ 112 ∷ 116 ∷ 32 ∷ 49 ∷ 51 ∷ 32 ∷ 49 ∷ 10 ∷ []
   pub collide-example :
