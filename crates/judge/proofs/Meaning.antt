@@ -106,7 +106,7 @@ module _ (row : List ℕ) where
       let pair = meets-pair at (length (trains row)) i j 0 d q in
       let in-front = pairs-before (length (trains row)) (f .before) (f .behind) p (f .in-order) in
       record {
-        pair = pair;
+        positions = pair;
         collides = not-free e p pair (f .meets);
         before = λ r h early. free-apart e r h (f .all-free r (in-front r .1 (h, early)));
       }
@@ -115,8 +115,8 @@ module _ (row : List ℕ) where
       (i j : ℕ) → refusal row ≡ Passed → FirstPair (trains row) (record { first = i; second = j }) →
       Least (Both (at i) (at j)) (tickOf (earliest (at i) (at j)))
   earliest-tick i j e f =
-      let li = limits e i (omega (arith, f .pair .0, f .pair .1)) in
-      let lj = limits e j (f .pair .1) in
+      let li = limits e i (omega (arith, f .positions .0, f .positions .1)) in
+      let lj = limits e j (f .positions .1) in
       let w = earliest-exists (at i) (at j) li lj .1 (collides-iff (at i) (at j) (li .strict) (lj .strict) .1 (f .collides)) in
       earliest-at (at i) (at j) li lj (tickOf (earliest (at i) (at j))) .0 (w .1 ∙ ap (λ c. At (tickOf c)) (sym (w .1)))
 
@@ -156,8 +156,8 @@ module _ (row : List ℕ) where
       back (meets i j d e f q) p s =
           let first = first-pair i j d e f in
           let w = first .collides in
-          let smaller : i < length (trains row) = omega (arith, first .pair .0, first .pair .1) in
-          absurd (s (w .0) i j smaller (first .pair .1) (λ same. omega (arith, first .pair .0)) (w .1 .0) (w .1 .1))
+          let smaller : i < length (trains row) = omega (arith, first .positions .0, first .positions .1) in
+          absurd (s (w .0) i j smaller (first .positions .1) (λ same. omega (arith, first .positions .0)) (w .1 .0) (w .1 .1))
 
   pub accept-exactly : refusal row ≡ Passed → ((L d : ℕ) × (paper (verdict row) ≡ accept L d)) ↔ Schedulable (trains row)
   accept-exactly e = (λ w. accept-schedulable .0 w .1, λ s. accept-schedulable .1 (e, s))
@@ -168,8 +168,8 @@ module _ (row : List ℕ) where
     where
       go : (p ≡ q) ⊎ (Before p q ⊎ Before q p) → p ≡ q
       go (inl e) = e
-      go (inr (inl early)) = let w = f .collides in absurd (g .before p (f .pair) early (w .0) (w .1))
-      go (inr (inr early)) = let w = g .collides in absurd (f .before q (g .pair) early (w .0) (w .1))
+      go (inr (inl early)) = let w = f .collides in absurd (g .before p (f .positions) early (w .0) (w .1))
+      go (inr (inr early)) = let w = g .collides in absurd (f .before q (g .positions) early (w .0) (w .1))
 
   -- What is shown of a collision.
   abbrev Shows : Meeting → Type 0
@@ -203,12 +203,12 @@ module _ (row : List ℕ) where
       back (refused r e q) p first least = let k = sym p ∙ e in let z : _≡_ {A = ℕ} 0 1 = cc in absurd (omega arith)
       back (accepted d e f q) p first least =
           let w = first .collides in
-          let apart = scan-all-free at (pairs (length (trains row))) 0 d f .0 _ (pairs-all (length (trains row)) _ .1 (first .pair)) in
-          absurd (free-apart e _ (first .pair) apart (w .0) (w .1))
+          let apart = scan-all-free at (pairs (length (trains row))) 0 d f .0 _ (pairs-all (length (trains row)) _ .1 (first .positions)) in
+          absurd (free-apart e _ (first .positions) apart (w .0) (w .1))
       back (meets i′ j′ d e f q) p first least =
           let same = first-only (record { first = i′; second = j′ }) (record { first = i; second = j }) (first-pair i′ j′ d e f) first in
-          let li = limits p i (omega (arith, first .pair .0, first .pair .1)) in
-          let lj = limits p j (first .pair .1) in
+          let li = limits p i (omega (arith, first .positions .0, first .positions .1)) in
+          let lj = limits p j (first .positions .1) in
           let ticks = ap tickOf (earliest-at (at i) (at j) li lj t .1 least) in (
             multiple (entries row),
             d,

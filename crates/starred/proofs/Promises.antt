@@ -5,11 +5,11 @@ use Rattle.euclid.specs.Answer.{euclidWithin, euclid, gcd, divisions, lcm}
 use Rattle.fraction.specs.Answer.{lowest, wholeTicks, commonMultiple, runningFrom, running}
 use Rattle.train.specs.Answer.{withinLimits, expression, free, claims, both, firstFrom, earliest}
 use Rattle.table.specs.Row.{entriesOf, entries, denominators, trains}
-use Rattle.table.specs.Answer.{noDenominator, noTime, firstRefusal, entryCheck, checked, tooLong, longCheck, refusal}
+use Rattle.table.specs.Answer.{noDenominator, noTime, firstRefusal, entryCheck, checked, tooLong, ticksCheck, refusal}
 use Rattle.judge.specs.Pairs.{pairsWith, pairsFrom}
 use Rattle.judge.specs.Answer.{scan, verdict}
 use Rattle.starred.specs.Promises.{Promises}
 
 pub promises : Promises
-unfolding verdict refusal checked entries entriesOf denominators trains noDenominator noTime firstRefusal entryCheck tooLong longCheck lowest wholeTicks commonMultiple running runningFrom scan pairsWith pairsFrom withinLimits expression free claims both firstFrom earliest euclidWithin euclid gcd divisions lcm
+unfolding verdict refusal checked entries entriesOf denominators trains noDenominator noTime firstRefusal entryCheck tooLong ticksCheck lowest wholeTicks commonMultiple running runningFrom scan pairsWith pairsFrom withinLimits expression free claims both firstFrom earliest euclidWithin euclid gcd divisions lcm
 promises = record { sheet-judged = refl }

@@ -1,7 +1,7 @@
 -- The laws of table. Promises gathers what specs/Promises.antt states; callers cite the others.
 pub mod Entries
 pub mod Checks
-pub mod Fineness
+pub mod RunningMultiple
 pub mod Ticking
 pub mod Order
 pub mod Exactly

@@ -1,5 +1,5 @@
 -- The tick and the trains of a row that passes refusals 1 to 4; refusals 5 and 6 exactly, and with them all of a table's.
--- Core: multiple-pos, divides-at, ticks-at, fine-exact, long-exact. The rest follows from these.
+-- Core: multiple-pos, divides-at, ticks-at, multiple-exact, long-exact. The rest follows from these.
 -- Assumes nothing.
 use Prim.Native.Nat.{ℕ, zero, suc, _<_, _≤_}
 use mathlib.Core.Path.{_≡_, refl, sym, ap, subst, _∙_}
@@ -26,7 +26,7 @@ use Rattle.train.specs.Claims.{maxTicks}
 use Rattle.table.specs.declared.Entry.{Entry}
 use Rattle.table.specs.Row.{noEntry, entries, denominatorsOf, denominators, multiple, tick}
 use Rattle.table.specs.Given.{TooManyTicks, TooLong, Condition, stage, Earlier}
-use Rattle.table.specs.Answer.{isAbove, fineCheck, fine, tooMany, tooLong, longCheck, short, refusal}
+use Rattle.table.specs.Answer.{isAbove, multipleCheck, multipleChecked, tooMany, tooLong, ticksCheck, ticksChecked, refusal}
 use Rattle.table.proofs.Order.{not-earlier}
 use Rattle.table.proofs.Exactly.{Exact, test-exact, or-else-exact, exact-same}
 use Rattle.table.proofs.Conditions.{Stands, AllStand, stands-test, or-is, trains-exact, Some, CheckedCondition, checked-exact, checked-condition, Sound, AllSound, checked-sound}
@@ -85,15 +85,15 @@ above-is Above = ((λ t. refl), (λ e. refl))
 above-is (Within n) =
     ((λ t. let z : _≡_ {A = ℕ} 0 1 = cc in absurd (omega arith)), (λ e. let z : _≡_ {A = ℕ} 0 1 = cc in absurd (omega arith)))
 
-abbrev FineCondition : List Entry → ℕ → Entry → Refusal → Type 0
-FineCondition es i e r = (r ≡ TickTooFine i) × (limit < multiple (take (suc i) es))
+abbrev MultipleCondition : List Entry → ℕ → Entry → Refusal → Type 0
+MultipleCondition es i e r = (r ≡ TickTooFine i) × (limit < multiple (take (suc i) es))
 
-fine-stands : (es : List Entry) (i : ℕ) (e : Entry) → AllStand 2 i 0 (FineCondition es i e)
-fine-stands es i e = stands-test (TickTooFine i) _ 2 i 0 (record { at-stage = refl; at-train = refl; at-number = omega arith })
+multiple-stands : (es : List Entry) (i : ℕ) (e : Entry) → AllStand 2 i 0 (MultipleCondition es i e)
+multiple-stands es i e = stands-test (TickTooFine i) _ 2 i 0 (record { at-stage = refl; at-train = refl; at-number = omega arith })
 
-fine-exact : (es : List Entry) → AllSound es → Exact (fine es) (Some es (FineCondition es))
-fine-exact es sound =
-    trains-exact 2 (fineCheck es) (FineCondition es) (fine-stands es) es
+multiple-exact : (es : List Entry) → AllSound es → Exact (multipleChecked es) (Some es (MultipleCondition es))
+multiple-exact es sound =
+    trains-exact 2 (multipleCheck es) (MultipleCondition es) (multiple-stands es) es
     (λ k h.
     let pos = multiple-pos (take (suc k) es) (sound-take (suc k) es sound) in
     let passes = running-above (denominators (take (suc k) es)) pos in
@@ -118,16 +118,16 @@ long-stands tick i e = stands-test (TimeTooLong i) _ 3 i 0 (record { at-stage = 
 
 long-one :
     (tick : Fraction) (i : ℕ) (e : Entry) → 0 < tick .numerator → Sound e → WholeTimes tick e →
-    Exact (longCheck tick i e) (LongCondition tick i e)
-unfolding longCheck tooLong
+    Exact (ticksCheck tick i e) (LongCondition tick i e)
+unfolding ticksCheck tooLong
 long-one tick i e pa s w =
     test-exact _ (TimeTooLong i) (TooLong tick e)
     (or-is _ _ (many-is (e .phase) tick (s .phase) pa (w .phase))
     (or-is _ _ (many-is (e .period) tick (s .period) pa (w .period)) (many-is (e .duration) tick (s .duration) pa (w .duration))))
 
-long-exact : (es : List Entry) → AllSound es → Exact (short (tick es) es) (Some es (LongCondition (tick es)))
+long-exact : (es : List Entry) → AllSound es → Exact (ticksChecked (tick es) es) (Some es (LongCondition (tick es)))
 long-exact es sound =
-    trains-exact 3 (longCheck (tick es)) (LongCondition (tick es)) (long-stands (tick es)) es
+    trains-exact 3 (ticksCheck (tick es)) (LongCondition (tick es)) (long-stands (tick es)) es
     (λ k h. long-one (tick es) k (getD es k noEntry) (omega arith) (sound k h) (ticks-at es k sound h))
 
 -- ---- All refusals of a table
@@ -145,21 +145,21 @@ refusal-exact row =
     (or-else-exact _ _ (CheckedCondition row) later (checked-exact row)
     (λ passed.
     let sound = checked-sound row passed in
-    or-else-exact _ _ (Some (entries row) (FineCondition (entries row))) (Some (entries row) (LongCondition (tick (entries row))))
-    (fine-exact (entries row) sound)
+    or-else-exact _ _ (Some (entries row) (MultipleCondition (entries row))) (Some (entries row) (LongCondition (tick (entries row))))
+    (multiple-exact (entries row) sound)
     (λ fine. long-exact (entries row) sound)
     (λ r s c d.
-    stage-order 2 3 _ _ r s (fine-stands (entries row) (c .0) (getD (entries row) (c .0) noEntry) r (c .2))
+    stage-order 2 3 _ _ r s (multiple-stands (entries row) (c .0) (getD (entries row) (c .0) noEntry) r (c .2))
     (long-stands (tick (entries row)) (d .0) (getD (entries row) (d .0) noEntry) s (d .2))
     (omega arith)))
     checked-first)
   where
     later : Refusal → Type 0
-    later r = Some (entries row) (FineCondition (entries row)) r ⊎ Some (entries row) (LongCondition (tick (entries row))) r
+    later r = Some (entries row) (MultipleCondition (entries row)) r ⊎ Some (entries row) (LongCondition (tick (entries row))) r
 
     -- refusals 1 to 4 come before 5 and 6
     later-stands : (s : Refusal) → later s → (1 < stage s)
-    later-stands s (inl d) = omega (arith, fine-stands (entries row) (d .0) (getD (entries row) (d .0) noEntry) s (d .2) .at-stage)
+    later-stands s (inl d) = omega (arith, multiple-stands (entries row) (d .0) (getD (entries row) (d .0) noEntry) s (d .2) .at-stage)
     later-stands s (inr d) = omega (arith, long-stands (tick (entries row)) (d .0) (getD (entries row) (d .0) noEntry) s (d .2) .at-stage)
 
     checked-first : (r s : Refusal) → CheckedCondition row r → later s → Earlier s r → ⊥

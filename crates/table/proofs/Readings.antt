@@ -1,5 +1,5 @@
 -- The laws of the whole reading: the ways through it, and what a table is that it passes.
--- Core: read-checked, read-fine, read-rest, trains-at. The rest follows from these.
+-- Core: read-checked, read-multiple, read-rest, trains-at. The rest follows from these.
 -- Assumes nothing.
 use Prim.Native.Nat.{ℕ, zero, suc, _*_, _<_, _≤_}
 use mathlib.Core.Path.{_≡_, refl, sym, ap, subst, _∙_}
@@ -27,7 +27,7 @@ use Rattle.table.specs.declared.Outcome.the-variants.{Passed, Refused}
 use Rattle.table.specs.declared.Reading.{Reading}
 use Rattle.table.specs.Row.{capacity, noEntry, entries, denominators, multiple, tick, whole, ticksOf, trainOf, trains, ExactTrain}
 use Rattle.table.specs.Given.{Condition, stage, Given}
-use Rattle.table.specs.Answer.{orElse, checked, fine, short, refusal, noTrain, tableOf, refused, readAfter, reading}
+use Rattle.table.specs.Answer.{orElse, checked, multipleChecked, ticksChecked, refusal, noTrain, tableOf, refused, readAfter, reading}
 use Rattle.table.specs.Inside.{readTicks}
 use Rattle.table.proofs.Entries.{entries-few}
 use Rattle.table.proofs.Order.{earlier-stage}
@@ -60,19 +60,19 @@ module _ (row : List ℕ) where
   -- the reading, from the outcomes of its first two stages
   from : (first second : Outcome) → Reading
   from first second =
-      readAfter (orElse first (orElse second (short (tick (entries row)) (entries row)))) (tableOf (tick (entries row)) (entries row))
+      readAfter (orElse first (orElse second (ticksChecked (tick (entries row)) (entries row)))) (tableOf (tick (entries row)) (entries row))
 
-  stages : from (checked row) (fine (entries row)) ≡ reading row
+  stages : from (checked row) (multipleChecked (entries row)) ≡ reading row
   unfolding reading refusal from
   stages = refl
 
   pub read-checked : (r : Refusal) → checked row ≡ Refused r → refused r ≡ reading row
   unfolding from
-  read-checked r e = ap (λ (o : Outcome). from o (fine (entries row))) (sym e) ∙ stages
+  read-checked r e = ap (λ (o : Outcome). from o (multipleChecked (entries row))) (sym e) ∙ stages
 
-  pub read-fine : (r : Refusal) → checked row ≡ Passed → fine (entries row) ≡ Refused r → refused r ≡ reading row
+  pub read-multiple : (r : Refusal) → checked row ≡ Passed → multipleChecked (entries row) ≡ Refused r → refused r ≡ reading row
   unfolding from
-  read-fine r e f = (λ i. from (sym e i) (sym f i)) ∙ stages
+  read-multiple r e f = (λ i. from (sym e i) (sym f i)) ∙ stages
 
   -- the multiple that the code has found is L
   pub read-tick :
@@ -83,7 +83,7 @@ module _ (row : List ℕ) where
       (running-within (denominators (entries row)) m (multiple-pos (entries row) (checked-sound row e)) w)
 
   pub read-rest :
-      (m : ℕ) (r : Reading) → checked row ≡ Passed → fine (entries row) ≡ Passed →
+      (m : ℕ) (r : Reading) → checked row ≡ Passed → multipleChecked (entries row) ≡ Passed →
       running (denominators (entries row)) ≡ Within m →
       r ≡ readTicks (record { numerator = 1; denominator = m }) (entries row) → r ≡ reading row
   unfolding from
@@ -126,7 +126,7 @@ module _ (row : List ℕ) where
     where
       go :
           (o : Outcome) → checked row ≡ o →
-          orElse o (orElse (fine (entries row)) (short (tick (entries row)) (entries row))) ≡ Passed → checked row ≡ Passed
+          orElse o (orElse (multipleChecked (entries row)) (ticksChecked (tick (entries row)) (entries row))) ≡ Passed → checked row ≡ Passed
       go Passed q e = q
       go (Refused r) q e = let z : _≡_ {A = ℕ} 0 1 = cc in absurd (omega arith)
 

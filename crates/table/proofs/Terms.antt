@@ -22,7 +22,7 @@ use Rattle.table.specs.declared.Entry.{Entry}
 use Rattle.table.specs.declared.Outcome.{Outcome}
 use Rattle.table.specs.declared.Reading.{Reading}
 use Rattle.table.specs.Row.{numbers, longestRow, noEntry, entries, denominators, tick, trainOf, SameTime, SameEntry, SameRow}
-use Rattle.table.specs.Answer.{test, orElse, firstRefusal, noDenominator, noTime, entryCheck, checked, isAbove, fineCheck, fine, tooLong, longCheck, short, refusal, filled, tableOf, readAfter, reading}
+use Rattle.table.specs.Answer.{test, orElse, firstRefusal, noDenominator, noTime, entryCheck, checked, isAbove, multipleCheck, multipleChecked, tooLong, ticksCheck, ticksChecked, refusal, filled, tableOf, readAfter, reading}
 use Rattle.table.proofs.Entries.{entries-length}
 use Rattle.table.proofs.Exactly.{false-not-true}
 
@@ -124,8 +124,8 @@ entry-lowest i e =
         ∙ sym (ap (λ (d : Bool). chain d (noTime e) (above (e .duration) (e .period))) q)
     go false q = ap (chain (noDenominator e) (noTime e)) (above-lowest-entry e q)
 
-long-lowest : (tick : Fraction) (i : ℕ) (e : Entry) → longCheck tick i (lowestEntry e) ≡ longCheck tick i e
-unfolding longCheck tooLong
+long-lowest : (tick : Fraction) (i : ℕ) (e : Entry) → ticksCheck tick i (lowestEntry e) ≡ ticksCheck tick i e
+unfolding ticksCheck tooLong
 long-lowest tick i e = rw (ticks-lowest (e .phase) tick, ticks-lowest (e .period) tick, ticks-lowest (e .duration) tick)
 
 denominators-lowest : (es : List Entry) → denominators (map lowestEntry es) ≡ denominators es
@@ -151,8 +151,8 @@ take-lowest zero es = refl
 take-lowest (suc n) [] = refl
 take-lowest (suc n) (e ∷ es) = ap (λ (fs : List Entry). lowestEntry e ∷ fs) (take-lowest n es)
 
-fine-lowest : (es : List Entry) → fine (map lowestEntry es) ≡ fine es
-fine-lowest es =
+multiple-lowest : (es : List Entry) → multipleChecked (map lowestEntry es) ≡ multipleChecked es
+multiple-lowest es =
     ap (λ (check : ℕ → Entry → Outcome). firstRefusal check 0 (map lowestEntry es))
     (fun-ext
     (λ i.
@@ -160,7 +160,7 @@ fine-lowest es =
     (λ e.
     ap (λ (ds : List ℕ). test (isAbove (running ds)) (TickTooFine i))
     (ap denominators (take-lowest (suc i) es) ∙ denominators-lowest (take (suc i) es)))))
-    ∙ first-lowest (fineCheck es) (λ i e. refl) 0 es
+    ∙ first-lowest (multipleCheck es) (λ i e. refl) 0 es
 
 trains-lowest : (tick : Fraction) (es : List Entry) → map (trainOf tick) (map lowestEntry es) ≡ map (trainOf tick) es
 trains-lowest tick [] = refl
@@ -172,7 +172,7 @@ readingOf n es =
     readAfter
     (orElse
     (orElse (test (not (eqb (n % numbers) 0)) TrainCount) (orElse (test (ltb longestRow n) TrainCount) (firstRefusal entryCheck 0 es)))
-    (orElse (fine es) (short (tick es) es)))
+    (orElse (multipleChecked es) (ticksChecked (tick es) es)))
     (tableOf (tick es) es)
 
 reading-of : (row : List ℕ) → reading row ≡ readingOf (length row) (entries row)
@@ -186,14 +186,14 @@ reading-lowest n es =
     ap (λ (ds : List ℕ). record { numerator = 1; denominator = commonMultiple ds }) (denominators-lowest es) in
     let trains-same : map (trainOf (tick (map lowestEntry es))) (map lowestEntry es) ≡ map (trainOf (tick es)) es =
     ap (λ (t : Fraction). map (trainOf t) (map lowestEntry es)) tick-same ∙ trains-lowest (tick es) es in
-    let short-same : short (tick (map lowestEntry es)) (map lowestEntry es) ≡ short (tick es) es =
-    ap (λ (t : Fraction). short t (map lowestEntry es)) tick-same ∙ first-lowest (longCheck (tick es)) (long-lowest (tick es)) 0 es in
+    let short-same : ticksChecked (tick (map lowestEntry es)) (map lowestEntry es) ≡ ticksChecked (tick es) es =
+    ap (λ (t : Fraction). ticksChecked t (map lowestEntry es)) tick-same ∙ first-lowest (ticksCheck (tick es)) (long-lowest (tick es)) 0 es in
     λ j.
     readAfter
     (orElse
     (orElse (test (not (eqb (n % numbers) 0)) TrainCount)
     (orElse (test (ltb longestRow n) TrainCount) (first-lowest entryCheck entry-lowest 0 es j)))
-    (orElse (fine-lowest es j) (short-same j)))
+    (orElse (multiple-lowest es j) (short-same j)))
     (record { tick = tick-same j; count = length-map es lowestEntry j; trains = filled (trains-same j) })
 
 -- entries that are the same have the same lowest terms

@@ -27,7 +27,7 @@ use Rattle.table.specs.declared.Timed.the-variants as trains
 use Rattle.table.specs.declared.Outcome.{Outcome}
 use Rattle.table.specs.declared.Outcome.the-variants.{Passed, Refused}
 use Rattle.table.specs.Row.{capacity, noEntry, whole, trainOf}
-use Rattle.table.specs.Answer.{test, tooMany, tooLong, longCheck, noTrain, filled, tableOf, refused, readAfter}
+use Rattle.table.specs.Answer.{test, tooMany, tooLong, ticksCheck, noTrain, filled, tableOf, refused, readAfter}
 use Rattle.table.specs.Inside.{timed, withTime, trainTimed, readTicks}
 use Rattle.table.proofs.Checks.{Passing, passing-begins, passing-on, passing-refused, passing-ends}
 
@@ -104,8 +104,8 @@ long-time i (Whole k) b next e = go (decLe k maxTicks)
     go (yes h) = simp (le-ltb maxTicks k h, le-leb k maxTicks h, e)
     go (no h) = simp (lt-ltb maxTicks k (omega arith), lt-leb k maxTicks (omega arith))
 
-pub long-timed : (tick : Fraction) (i : ℕ) (e : Entry) → longCheck tick i e ≡ longOf i (trainTimed tick e)
-unfolding longCheck tooLong longOf
+pub long-timed : (tick : Fraction) (i : ℕ) (e : Entry) → ticksCheck tick i e ≡ longOf i (trainTimed tick e)
+unfolding ticksCheck tooLong longOf
 long-timed tick i e =
     long-time i (wholeTicks (e .phase) tick) _ _
     (long-time i (wholeTicks (e .period) tick) _ _
@@ -139,12 +139,12 @@ filled-more ts n i t l h =
 
 -- The loop stands at position i, has refused no train before it, and the array holds those trains and zeros behind them.
 pub record Filling (tick : Fraction) (es : List Entry) (ts : List Train) (i : ℕ) : Type 0 where
-  pub passing : Passing (longCheck tick) es i
+  pub passing : Passing (ticksCheck tick) es i
   pub few : length es ≤ capacity
   pub held : ts ≡ map (trainOf tick) (take i es) ++ replicate (capacity - i) noTrain
 
 pub filling-begins : (tick : Fraction) (es : List Entry) → length es ≤ capacity → Filling tick es (replicate capacity noTrain) 0
-filling-begins tick es h = record { passing = passing-begins (longCheck tick) es; few = h; held = refl }
+filling-begins tick es h = record { passing = passing-begins (ticksCheck tick) es; few = h; held = refl }
 
 module _ (tick : Fraction) (es : List Entry) (ts : List Train) (i : ℕ) (f : Filling tick es ts i) where
   abbrev front : List Train
@@ -157,7 +157,7 @@ module _ (tick : Fraction) (es : List Entry) (ts : List Train) (i : ℕ) (f : Fi
   filling-room h = omega (arith, f .few)
 
   -- what the code has found of the next train
-  next-long : (x : Timed) → x ≡ trainTimed tick (getD es i noEntry) → longCheck tick i (getD es i noEntry) ≡ longOf i x
+  next-long : (x : Timed) → x ≡ trainTimed tick (getD es i noEntry) → ticksCheck tick i (getD es i noEntry) ≡ longOf i x
   next-long x e = long-timed tick i (getD es i noEntry) ∙ ap (longOf i) (sym e)
 
   pub filling-refused :
@@ -166,7 +166,7 @@ module _ (tick : Fraction) (es : List Entry) (ts : List Train) (i : ℕ) (f : Fi
   unfolding longOf
   filling-refused x h e q =
       ap (λ (o : Outcome). readAfter o (tableOf tick es))
-      (passing-refused (longCheck tick) es i (f .passing) (TimeTooLong i) h (next-long x e ∙ ap (longOf i) q))
+      (passing-refused (ticksCheck tick) es i (f .passing) (TimeTooLong i) h (next-long x e ∙ ap (longOf i) q))
 
   pub filling-on :
       (x : Timed) (t : Train) → i < length es → x ≡ trainTimed tick (getD es i noEntry) → x ≡ trains.InTicks t →
@@ -181,7 +181,7 @@ module _ (tick : Fraction) (es : List Entry) (ts : List Train) (i : ℕ) (f : Fi
       ∙ ap (λ (k : ℕ). map (trainOf tick) (take k es)) (sym (add-one i)) in
       let n = front-length in
       record {
-        passing = passing-on (longCheck tick) es i (f .passing) h (next-long x e ∙ ap (longOf i) q);
+        passing = passing-on (ticksCheck tick) es i (f .passing) h (next-long x e ∙ ap (longOf i) q);
         few = f .few;
         held =
             ap (λ (us : List Train). set us i t) (f .held)
@@ -200,4 +200,4 @@ module _ (tick : Fraction) (es : List Entry) (ts : List Train) (i : ℕ) (f : Fi
       ∙ ap (λ (us : List Entry). map (trainOf tick) us ++ replicate (capacity - i) noTrain) (take-all i es all)
       ∙ ap (λ (k : ℕ). map (trainOf tick) es ++ replicate (capacity - k) noTrain) (here ∙ sym (length-map es (trainOf tick))) in
       (λ j. record { outcome = Passed; table = record { tick = tick; count = n-is j; trains = ts-is j } })
-      ∙ ap (λ (o : Outcome). readAfter o (tableOf tick es)) (passing-ends (longCheck tick) es i (f .passing) all)
+      ∙ ap (λ (o : Outcome). readAfter o (tableOf tick es)) (passing-ends (ticksCheck tick) es i (f .passing) all)

@@ -7,12 +7,12 @@
 --     entryCheck i e          refusals 2, 3, 4 of the train at position i, as `Entry::check` answers them
 --     checked row             refusals 1 to 4, as `check` answers them
 --     isAbove m               whether a multiple is above the limit
---     fineCheck es i e        refusal 5 of the train at position i
---     fine es                 refusal 5 of a table
+--     multipleCheck es i e    refusal 5 of the train at position i
+--     multipleChecked es      refusal 5 of a table
 --     tooMany ticks           whether a time is not within the limit
 --     tooLong tick e          whether a train has such a time
---     longCheck tick i e      refusal 6 of the train at position i
---     short tick es           refusal 6 of a table
+--     ticksCheck tick i e     refusal 6 of the train at position i
+--     ticksChecked tick es    refusal 6 of a table
 --     refusal row             refusals 1 to 6
 --     noTrain                 what stands in the array where there is no train
 --     filled ts               the array of some trains
@@ -85,12 +85,12 @@ isAbove multiples.Above = true
 isAbove (multiples.Within m) = false
 
 -- Refusal 5 at the train at position i: the multiple of the denominators up to and including its own is above the limit.
-abbrev pub fineCheck : List Entry → ℕ → Entry → Outcome
-fineCheck es i e = test (isAbove (running (denominators (take (suc i) es)))) (TickTooFine i)
+abbrev pub multipleCheck : List Entry → ℕ → Entry → Outcome
+multipleCheck es i e = test (isAbove (running (denominators (take (suc i) es)))) (TickTooFine i)
 
 -- Refusal 5, at the first train at which the running multiple passes the limit.
-abbrev pub fine : List Entry → Outcome
-fine es = firstRefusal (fineCheck es) 0 es
+abbrev pub multipleChecked : List Entry → Outcome
+multipleChecked es = firstRefusal (multipleCheck es) 0 es
 
 -- A time that is not a number of ticks within the limit.
 abbrev pub tooMany : Ticks → Bool
@@ -103,16 +103,16 @@ tooLong tick e =
     tooMany (wholeTicks (e .phase) tick) || (tooMany (wholeTicks (e .period) tick) || tooMany (wholeTicks (e .duration) tick))
 
 -- Refusal 6 of one train.
-unfoldable pub longCheck : Fraction → ℕ → Entry → Outcome
-longCheck tick i e = test (tooLong tick e) (TimeTooLong i)
+unfoldable pub ticksCheck : Fraction → ℕ → Entry → Outcome
+ticksCheck tick i e = test (tooLong tick e) (TimeTooLong i)
 
 -- Refusal 6, at the first train with a time above the limit.
-abbrev pub short : Fraction → List Entry → Outcome
-short tick es = firstRefusal (longCheck tick) 0 es
+abbrev pub ticksChecked : Fraction → List Entry → Outcome
+ticksChecked tick es = firstRefusal (ticksCheck tick) 0 es
 
 -- 1; then train by train 2, 3, 4; then 5 over the table; then 6.
 unfoldable pub refusal : List ℕ → Outcome
-refusal row = orElse (checked row) (orElse (fine (entries row)) (short (tick (entries row)) (entries row)))
+refusal row = orElse (checked row) (orElse (multipleChecked (entries row)) (ticksChecked (tick (entries row)) (entries row)))
 
 -- What stands in the array where there is no train.
 abbrev pub noTrain : Train

@@ -3,7 +3,7 @@
 --     NoTime e                period or duration is 0
 --     TooManyTicks tick time  a time is more than 10,000,000 ticks
 --     TooLong tick e          a train has such a time
---     At es i P               the train at position i has a property
+--     TrainWith es i P        the train at position i has a property
 --     Condition row r         the paper's condition for refusal r holds of the row
 --     stage r                 1; then train by train 2, 3, 4; then 5 over the table; then 6
 --     Earlier r s             refusal r comes before s in that order
@@ -41,17 +41,17 @@ abbrev pub TooLong : Fraction → Entry → Type 0
 TooLong tick e = TooManyTicks tick (e .phase) ⊎ TooManyTicks tick (e .period) ⊎ TooManyTicks tick (e .duration)
 
 -- There is a train at position i, and it has the property.
-abbrev pub At : List Entry → ℕ → (Entry → Type 0) → Type 0
-At es i P = (i < length es) × P (getD es i noEntry)
+abbrev pub TrainWith : List Entry → ℕ → (Entry → Type 0) → Type 0
+TrainWith es i P = (i < length es) × P (getD es i noEntry)
 
 -- The conditions of the paper's table, each with its train; the other refusals are not a table's.
 abbrev pub Condition : List ℕ → Refusal → Type 0
 Condition row TrainCount = (numbers ∣ length row → ⊥) ⊎ (longestRow < length row)
-Condition row (ZeroDenominator i) = At (entries row) i NoDenominator
-Condition row (ZeroTime i) = At (entries row) i NoTime
-Condition row (DurationAbovePeriod i) = At (entries row) i (λ e. above (e .duration) (e .period) ≡ true)
-Condition row (TickTooFine i) = At (entries row) i (λ e. limit < multiple (take (suc i) (entries row)))
-Condition row (TimeTooLong i) = At (entries row) i (TooLong (tick (entries row)))
+Condition row (ZeroDenominator i) = TrainWith (entries row) i NoDenominator
+Condition row (ZeroTime i) = TrainWith (entries row) i NoTime
+Condition row (DurationAbovePeriod i) = TrainWith (entries row) i (λ e. above (e .duration) (e .period) ≡ true)
+Condition row (TickTooFine i) = TrainWith (entries row) i (λ e. limit < multiple (take (suc i) (entries row)))
+Condition row (TimeTooLong i) = TrainWith (entries row) i (TooLong (tick (entries row)))
 Condition row BufferTooShort = ⊥
 Condition row WrongMark = ⊥
 Condition row WrongVersion = ⊥

@@ -18,7 +18,7 @@ use Rattle.table.specs.declared.Timed.{Timed}
 use Rattle.table.specs.declared.Timed.the-variants as trains
 use Rattle.table.specs.declared.Reading.{Reading}
 use Rattle.table.specs.Row.{trainOf}
-use Rattle.table.specs.Answer.{short, tableOf, readAfter}
+use Rattle.table.specs.Answer.{ticksChecked, tableOf, readAfter}
 
 -- A time in ticks, or that it is too long.
 abbrev pub timed : Ticks → Time
@@ -40,4 +40,4 @@ trainTimed tick e =
 
 -- The table of some trains in a given tick, or refusal 6.
 abbrev pub readTicks : Fraction → List Entry → Reading
-readTicks tick es = readAfter (short tick es) (tableOf tick es)
+readTicks tick es = readAfter (ticksChecked tick es) (tableOf tick es)

@@ -12,7 +12,7 @@ ghost use Rattle.fraction.specs.Answer.{wholeTicks, runningFrom, running};
 ghost use Rattle.fraction.specs.declared.Multiple.the-variants.{Within};
 ghost use Rattle.table.specs.declared.Outcome.the-variants.{Passed};
 ghost use Rattle.table.specs.Row.{capacity, numbers, longestRow, recordLength, timeAt, noEntry, entries, denominatorsOf, denominators};
-ghost use Rattle.table.specs.Answer.{noDenominator, noTime, entryCheck, checked, fine, refused, reading};
+ghost use Rattle.table.specs.Answer.{noDenominator, noTime, entryCheck, checked, multipleChecked, refused, reading};
 ghost use Rattle.table.specs.Inside.{timed, trainTimed, readTicks};
 
 // The three times of one train in milliseconds, as they stand in a row.
@@ -226,7 +226,7 @@ pub fn check(row: &[u32]) -> Outcome
 
 // The running multiple over a row: refusal 5 at the first train at which it passes the limit, or L.
 fn common_multiple(row: &[u32]) -> Common
-    ensures { λ r. ⌜ r .outcome ≡ fine (entries (now (row .entry))) ⌝ }
+    ensures { λ r. ⌜ r .outcome ≡ multipleChecked (entries (now (row .entry))) ⌝ }
     ensures found { λ r. ⌜ (r .outcome ≡ Passed → running (denominators (entries (now (row .entry)))) ≡ Within (r .multiple)) ⌝ }
 {
     let count = row.len() / Table::NUMBERS;
@@ -321,8 +321,8 @@ pub fn read(row: &[u32]) -> Reading
         Outcome::Passed => {}
     }
     let common = common_multiple(row);
-    let fine = common.outcome;
-    match fine {
+    let outcome = common.outcome;
+    match outcome {
         Outcome::Refused(refusal) => return Reading::refused(refusal),
         Outcome::Passed => {}
     }

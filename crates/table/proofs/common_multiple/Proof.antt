@@ -10,7 +10,7 @@ use Rattle.table.specs.declared.Entry.{Entry}
 use Rattle.table.specs.Row.{entries, denominatorsOf}
 use Rattle.table.proofs.Entries.{entries-in, entries-out}
 use Rattle.table.proofs.Checks.{refused-not-passed}
-use Rattle.table.proofs.Fineness.{Running, running-begins, running-refused, running-on, running-ends, running-found}
+use Rattle.table.proofs.RunningMultiple.{Running, running-begins, running-refused, running-on, running-ends, running-found}
 use Rattle.table.proofs.common_multiple.Statement.{statement}
 use Rattle.table.proofs.common_multiple.Tie as tie
 

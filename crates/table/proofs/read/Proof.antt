@@ -2,7 +2,7 @@
 -- Assumes nothing.
 use mathlib.Core.Path.{refl, sym, _∙_}
 use Rattle.table.proofs.Conditions.{checked-length}
-use Rattle.table.proofs.Readings.{read-checked, read-fine, read-rest}
+use Rattle.table.proofs.Readings.{read-checked, read-multiple, read-rest}
 use borrow.Author.Needs.{needs}
 use Rattle.table.proofs.read.Statement.{statement}
 use Rattle.table.proofs.read.Tie as tie
@@ -27,8 +27,8 @@ enum-told c = search needs
 common-multiple-requires : tie.Need-common-multiple-requires
 common-multiple-requires c κs = search needs
 
-enum-known-fine : tie.Need-enum-known-fine
-enum-known-fine c = search needs
+enum-known-outcome : tie.Need-enum-known-outcome
+enum-known-outcome c = search needs
 
 refused-requires-2 : tie.Need-refused-requires-2
 refused-requires-2 c κs = search needs
@@ -39,8 +39,8 @@ returns-2 c =
     let common = told .before .before in
     let passed = common .before in
     let is =
-    read-fine _ _ (sym (passed .before .before .check .ensures) ∙ passed .enum-told .given .1)
-    (sym (common .common-multiple .ensures .0) ∙ told .fine .given .1) in
+    read-multiple _ _ (sym (passed .before .before .check .ensures) ∙ passed .enum-told .given .1)
+    (sym (common .common-multiple .ensures .0) ∙ told .outcome .given .1) in
     (c .refused2 .ensures ∙ is, (refl, refl, refl, refl))
 
 enum-told-2 : tie.Need-enum-told-2
@@ -56,11 +56,11 @@ returns-3 c =
     let told = c .before in
     let common = told .before .before in
     let passed = common .before in
-    let fine = told .enum-told2 .given .1 in
+    let found = told .enum-told2 .given .1 in
     let is =
     read-rest _ _ _ (sym (passed .before .before .check .ensures) ∙ passed .enum-told .given .1)
-    (sym (common .common-multiple .ensures .0) ∙ fine)
-    (common .common-multiple .ensures .1 fine)
+    (sym (common .common-multiple .ensures .0) ∙ found)
+    (common .common-multiple .ensures .1 found)
     (c .read-ticks .ensures) in
     (is, (refl, refl, refl, refl))
 
@@ -74,7 +74,7 @@ read-spec =
     returns
     enum-told
     common-multiple-requires
-    enum-known-fine
+    enum-known-outcome
     refused-requires-2
     returns-2
     enum-told-2

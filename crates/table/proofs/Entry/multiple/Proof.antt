@@ -1,7 +1,7 @@
 -- `Entry::multiple` meets its contract: the three denominators, one after the other.
 -- Assumes nothing.
 use borrow.Author.Needs.{needs}
-use Rattle.table.proofs.Fineness.{multiple-of}
+use Rattle.table.proofs.RunningMultiple.{multiple-of}
 use Rattle.table.proofs.Entry.multiple.Statement.{statement}
 use Rattle.table.proofs.Entry.multiple.Tie as tie
 

@@ -16,7 +16,7 @@ use Rattle.fraction.proofs.CommonMultiple.{running-append}
 use Rattle.table.specs.declared.Entry.{Entry}
 use Rattle.table.specs.declared.Outcome.the-variants.{Passed, Refused}
 use Rattle.table.specs.Row.{denominatorsOf, denominators, noEntry}
-use Rattle.table.specs.Answer.{test, isAbove, fineCheck, fine}
+use Rattle.table.specs.Answer.{test, isAbove, multipleCheck, multipleChecked}
 use Rattle.table.proofs.Checks.{Passing, passing-begins, passing-on, passing-refused, passing-ends}
 
 -- ---- Core laws
@@ -48,12 +48,12 @@ denominators-more es i h = ap denominators (take-suc es i noEntry h) ∙ denomin
 
 -- The loop stands at position i with the multiple m of the trains before it, and has refused none of them.
 pub record Running (es : List Entry) (m i : ℕ) : Type 0 where
-  pub passing : Passing (fineCheck es) es i
+  pub passing : Passing (multipleCheck es) es i
   pub so-far : running (denominators (take i es)) ≡ Within m
 
 pub running-begins : (es : List Entry) → Running es 1 0
 unfolding denominators running runningFrom
-running-begins es = record { passing = passing-begins (fineCheck es) es; so-far = refl }
+running-begins es = record { passing = passing-begins (multipleCheck es) es; so-far = refl }
 
 module _ (es : List Entry) (m i : ℕ) (r : Running es m i) where
   -- the multiple with the next train
@@ -67,14 +67,14 @@ module _ (es : List Entry) (m i : ℕ) (r : Running es m i) where
   -- refusal 5 of the next train, from the multiple that the code has found
   next-check :
       (x : Multiple) → i < length es → x ≡ runningFrom (Within m) (denominatorsOf (getD es i noEntry)) →
-      fineCheck es i (getD es i noEntry) ≡ test (isAbove x) (TickTooFine i)
+      multipleCheck es i (getD es i noEntry) ≡ test (isAbove x) (TickTooFine i)
   next-check x h e = ap (λ (y : Multiple). test (isAbove y) (TickTooFine i)) (running-next h ∙ sym e)
 
   pub running-refused :
       (x : Multiple) → i < length es → x ≡ runningFrom (Within m) (denominatorsOf (getD es i noEntry)) → x ≡ Above →
-      Refused (TickTooFine i) ≡ fine es
+      Refused (TickTooFine i) ≡ multipleChecked es
   running-refused x h e above =
-      passing-refused (fineCheck es) es i (r .passing) (TickTooFine i) h
+      passing-refused (multipleCheck es) es i (r .passing) (TickTooFine i) h
       (next-check x h e ∙ ap (λ (y : Multiple). test (isAbove y) (TickTooFine i)) above)
 
   pub running-on :
@@ -83,13 +83,13 @@ module _ (es : List Entry) (m i : ℕ) (r : Running es m i) where
   running-on x n h e within =
       record {
         passing =
-            passing-on (fineCheck es) es i (r .passing) h
+            passing-on (multipleCheck es) es i (r .passing) h
             (next-check x h e ∙ ap (λ (y : Multiple). test (isAbove y) (TickTooFine i)) within);
         so-far = ap (λ (k : ℕ). running (denominators (take k es))) (add-one i) ∙ running-next h ∙ sym e ∙ within;
       }
 
-  pub running-ends : length es ≤ i → Passed ≡ fine es
-  running-ends h = passing-ends (fineCheck es) es i (r .passing) h
+  pub running-ends : length es ≤ i → Passed ≡ multipleChecked es
+  running-ends h = passing-ends (multipleCheck es) es i (r .passing) h
 
   pub running-found : length es ≤ i → running (denominators es) ≡ Within m
   running-found h = ap (λ (fs : List Entry). running (denominators fs)) (sym (take-all i es h)) ∙ r .so-far
