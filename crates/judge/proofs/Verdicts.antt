@@ -1,4 +1,4 @@
--- The laws of the verdict: the ways through the code, and what each verdict means.
+-- The laws of the verdict: the ways through it, what the walk through the pairs has found, and what the reading hands on.
 -- Core: verdict-refused, verdict-found, scan-all-free, scan-first. The rest follows from these.
 -- Assumes nothing.
 use Prim.Native.Nat.{ℕ, zero, suc, _+_, _-_, _<_}

@@ -1,4 +1,4 @@
--- The laws of the checks: the ways through refusals 2, 3 and 4 of one train, and the first refusal of some trains.
+-- The laws of the checks: the ways through refusals 1 to 4, and the first refusal of some trains, by the loop that looks for it.
 -- Core: the ways of `entryCheck`, first-here, first-on, first-end. The rest follows from these.
 -- Assumes nothing.
 use Prim.Native.Nat.{ℕ, suc, _+_, _%_, _<_, _≤_}

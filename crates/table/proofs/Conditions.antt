@@ -1,5 +1,5 @@
--- Refusals 1 to 6 are given exactly when the paper says.
--- Core: entry-exact, multiple-exact, long-exact, one for each stage of the order. The rest follows from these.
+-- Refusals 1 to 4 are given exactly when the paper says; and what is so of a row that passes them.
+-- Core: then-exact, trains-exact, entry-exact, checked-exact. The rest follows from these.
 -- Assumes nothing.
 use Prim.Native.Nat.{ℕ, _+_, _%_, _<_, _≤_, _∣_}
 use mathlib.Core.Path.{_≡_, refl, sym, ap, subst}

@@ -1,5 +1,5 @@
--- The laws of the whole reading: the ways through it, and what a table is that it passes.
--- Core: read-checked, read-multiple, read-rest, trains-at. The rest follows from these.
+-- The laws of the whole reading: the ways through it, when each refusal is given, and what a table is that passes.
+-- Core: read-checked, read-multiple, read-rest, trains-at. The rest follows from these and from refusal-exact.
 -- Assumes nothing.
 use Prim.Native.Nat.{ℕ, zero, suc, _*_, _<_, _≤_}
 use mathlib.Core.Path.{_≡_, refl, sym, ap, subst, _∙_}
