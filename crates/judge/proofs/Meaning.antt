@@ -26,12 +26,14 @@ use Rattle.table.specs.Row.{entries, multiple, trains, SameRow}
 use Rattle.table.specs.Given.{Given}
 use Rattle.table.specs.Answer.{refusal}
 use Rattle.table.proofs.Readings.{refused-exactly, trains-length, passed-few, passed-limits}
+use Rattle.table.proofs.Checks.{refused-not-passed}
 use Rattle.table.proofs.Terms.{reading-same}
 use Rattle.judge.specs.declared.Found.{Found}
 use Rattle.judge.specs.declared.Found.the-variants.{Free, Meets}
 use Rattle.judge.specs.declared.Meeting.{Meeting}
+use Rattle.judge.specs.declared.Verdict.{Verdict}
 use Rattle.judge.specs.declared.Verdict.the-variants as v
-use Rattle.judge.specs.Paper.{accept, collide, refuse, paper}
+use Rattle.judge.specs.Paper.{Shown, accept, collide, refuse, paper}
 use Rattle.judge.specs.Pairs.{trainAt, Schedulable, Places, Before, PairOf, FirstPair, pairs, In, total, SummedTo}
 use Rattle.judge.specs.Answer.{tickOf, scan, found, verdict}
 use Rattle.judge.proofs.Walk.{pairs-few}
@@ -62,6 +64,16 @@ view row = outcomes (refusal row) refl
     outcomes : (o : Outcome) → refusal row ≡ o → View row
     outcomes Passed e = founds e (scan (trainAt (trains row)) (pairs (length (trains row))) 0) refl
     outcomes (Refused r) e = refused r e (sym (verdict-refused row r e))
+
+-- the three kinds of printed lines
+kind : Shown → ℕ
+kind (accept L d) = 0
+kind (collide i j t L d) = 1
+kind (refuse n t) = 2
+
+-- a verdict of one kind is not printed as one of another
+not-shown : {u w : Verdict} {s : Shown} {A : Type 0} → u ≡ w → paper u ≡ s → (kind (paper w) ≡ kind s → ⊥) → A
+not-shown q h differ = absurd (differ (ap kind (ap paper (sym q) ∙ h)))
 
 -- ---- Pairs of a table that passes
 
@@ -123,6 +135,7 @@ module _ (row : List ℕ) where
   -- ---- The theorems
 
   pub refuse-exactly : (r : Refusal) → (paper (verdict row) ≡ refuse (refusals.paper r .number) (refusals.paper r .place)) ↔ Given row r
+  unfolding kind
   refuse-exactly r = (there (view row), λ g. ap paper (sym (verdict-refused row r (refused-exactly row r .1 g))))
     where
       there : View row → paper (verdict row) ≡ refuse (refusals.paper r .number) (refusals.paper r .place) → Given row r
@@ -131,27 +144,29 @@ module _ (row : List ℕ) where
           let a : refusals.paper s .number ≡ refusals.paper r .number = cc in
           let b : refusals.paper s .place ≡ refusals.paper r .place = cc in
           refused-exactly row r .0 (e ∙ ap Refused (refusals-proved.promises .paper-tells s r (λ i. record { number = a i; place = b i })))
-      there (accepted d e f q) h = let k = ap paper (sym q) ∙ h in let z : _≡_ {A = ℕ} 0 1 = cc in absurd (omega arith)
-      there (meets i j d e f q) h = let k = ap paper (sym q) ∙ h in let z : _≡_ {A = ℕ} 0 1 = cc in absurd (omega arith)
+      there (accepted d e f q) h = not-shown q h (λ z. omega arith)
+      there (meets i j d e f q) h = not-shown q h (λ z. omega arith)
 
   pub refuse-only : (number train : ℕ) → paper (verdict row) ≡ refuse number train → (r : Refusal) × Given row r
+  unfolding kind
   refuse-only number train h = go (view row)
     where
       go : View row → (r : Refusal) × Given row r
       go (refused r e q) = (r, refused-exactly row r .0 e)
-      go (accepted d e f q) = let k = ap paper (sym q) ∙ h in let z : _≡_ {A = ℕ} 0 1 = cc in absurd (omega arith)
-      go (meets i j d e f q) = let k = ap paper (sym q) ∙ h in let z : _≡_ {A = ℕ} 0 1 = cc in absurd (omega arith)
+      go (accepted d e f q) = not-shown q h (λ z. omega arith)
+      go (meets i j d e f q) = not-shown q h (λ z. omega arith)
 
   pub accept-schedulable : ((L d : ℕ) × (paper (verdict row) ≡ accept L d)) ↔ ((refusal row ≡ Passed) × Schedulable (trains row))
+  unfolding kind
   accept-schedulable = (λ w. there (view row) (w .2), λ h. back (view row) (h .0) (h .1))
     where
       there : View row → {L d : ℕ} → paper (verdict row) ≡ accept L d → (refusal row ≡ Passed) × Schedulable (trains row)
-      there (refused r e q) h = let k = ap paper (sym q) ∙ h in let z : _≡_ {A = ℕ} 0 1 = cc in absurd (omega arith)
+      there (refused r e q) h = not-shown q h (λ z. omega arith)
       there (accepted d e f q) h = (e, all-schedulable e (scan-all-free at (pairs (length (trains row))) 0 d f .0))
-      there (meets i j d e f q) h = let k = ap paper (sym q) ∙ h in let z : _≡_ {A = ℕ} 0 1 = cc in absurd (omega arith)
+      there (meets i j d e f q) h = not-shown q h (λ z. omega arith)
 
       back : View row → refusal row ≡ Passed → Schedulable (trains row) → (L d : ℕ) × (paper (verdict row) ≡ accept L d)
-      back (refused r e q) p s = let k = sym p ∙ e in let z : _≡_ {A = ℕ} 0 1 = cc in absurd (omega arith)
+      back (refused r e q) p s = absurd (refused-not-passed r (sym e ∙ p))
       back (accepted d e f q) p s = (multiple (entries row), d, ap paper q)
       back (meets i j d e f q) p s =
           let first = first-pair i j d e f in
@@ -180,13 +195,14 @@ module _ (row : List ℕ) where
       (i j t : ℕ) →
       ((L d : ℕ) × (paper (verdict row) ≡ collide i j t L d))
       ↔ ((refusal row ≡ Passed) × FirstPair (trains row) (record { first = i; second = j }) × Least (Both (at i) (at j)) t)
+  unfolding kind
   collide-exactly i j t = (λ w. there (view row) (w .2), λ h. back (view row) (h .0) (h .1) (h .2))
     where
       there :
           View row → {L d : ℕ} → paper (verdict row) ≡ collide i j t L d →
           (refusal row ≡ Passed) × FirstPair (trains row) (record { first = i; second = j }) × Least (Both (at i) (at j)) t
-      there (refused r e q) h = let k = ap paper (sym q) ∙ h in let z : _≡_ {A = ℕ} 0 1 = cc in absurd (omega arith)
-      there (accepted d e f q) h = let k = ap paper (sym q) ∙ h in let z : _≡_ {A = ℕ} 0 1 = cc in absurd (omega arith)
+      there (refused r e q) h = not-shown q h (λ z. omega arith)
+      there (accepted d e f q) h = not-shown q h (λ z. omega arith)
       there (meets i′ j′ d e f q) h =
           let k = ap paper (sym q) ∙ h in
           let a : i′ ≡ i = cc in
@@ -200,7 +216,7 @@ module _ (row : List ℕ) where
       back :
           View row → refusal row ≡ Passed → FirstPair (trains row) (record { first = i; second = j }) → Least (Both (at i) (at j)) t →
           (L d : ℕ) × (paper (verdict row) ≡ collide i j t L d)
-      back (refused r e q) p first least = let k = sym p ∙ e in let z : _≡_ {A = ℕ} 0 1 = cc in absurd (omega arith)
+      back (refused r e q) p first least = absurd (refused-not-passed r (sym e ∙ p))
       back (accepted d e f q) p first least =
           let w = first .collides in
           let apart = scan-all-free at (pairs (length (trains row))) 0 d f .0 _ (pairs-all (length (trains row)) _ .1 (first .positions)) in
@@ -219,25 +235,27 @@ module _ (row : List ℕ) where
 
   pub accept-figures :
       (L d : ℕ) → paper (verdict row) ≡ accept L d → (L ≡ multiple (entries row)) × (d ≡ total at (pairs (length (trains row))))
+  unfolding kind
   accept-figures L d h = go (view row)
     where
       go : View row → (L ≡ multiple (entries row)) × (d ≡ total at (pairs (length (trains row))))
-      go (refused r e q) = let k = ap paper (sym q) ∙ h in let z : _≡_ {A = ℕ} 0 1 = cc in absurd (omega arith)
+      go (refused r e q) = not-shown q h (λ z. omega arith)
       go (accepted n e f q) =
           let k = ap paper (sym q) ∙ h in
           let a : L ≡ multiple (entries row) = cc in
           let b : d ≡ n = cc in
           (a, b ∙ scan-all-free at (pairs (length (trains row))) 0 n f .1 ∙ zero-add _)
-      go (meets i j n e f q) = let k = ap paper (sym q) ∙ h in let z : _≡_ {A = ℕ} 0 1 = cc in absurd (omega arith)
+      go (meets i j n e f q) = not-shown q h (λ z. omega arith)
 
   pub collide-figures :
       (i j t L d : ℕ) → paper (verdict row) ≡ collide i j t L d →
       (L ≡ multiple (entries row)) × SummedTo (trains row) (record { first = i; second = j }) d
+  unfolding kind
   collide-figures i j t L d h = go (view row)
     where
       go : View row → (L ≡ multiple (entries row)) × SummedTo (trains row) (record { first = i; second = j }) d
-      go (refused r e q) = let k = ap paper (sym q) ∙ h in let z : _≡_ {A = ℕ} 0 1 = cc in absurd (omega arith)
-      go (accepted n e f q) = let k = ap paper (sym q) ∙ h in let z : _≡_ {A = ℕ} 0 1 = cc in absurd (omega arith)
+      go (refused r e q) = not-shown q h (λ z. omega arith)
+      go (accepted n e f q) = not-shown q h (λ z. omega arith)
       go (meets i′ j′ n e f q) =
           let k = ap paper (sym q) ∙ h in
           let a : i′ ≡ i = cc in

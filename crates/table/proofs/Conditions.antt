@@ -1,13 +1,13 @@
 -- Refusals 1 to 4 are given exactly when the paper says; and what is so of a row that passes them.
--- Core: then-exact, trains-exact, entry-exact, checked-exact. The rest follows from these.
+-- Core: then-exact, each-exact, entry-exact, checked-exact. The rest follows from these.
 -- Assumes nothing.
-use Prim.Native.Nat.{ℕ, _+_, _%_, _<_, _≤_, _∣_}
+use Prim.Native.Nat.{ℕ, _%_, _<_, _≤_, _∣_}
 use mathlib.Core.Path.{_≡_, refl, sym, ap, subst}
 use mathlib.Core.Bool.{Bool, true, false, not, _||_}
 use mathlib.Core.Logic.{_↔_, _⊎_, inl, inr, ⊎-elim}
 use mathlib.Core.List.{List}
 use mathlib.Mathlib.Data.Bool.Basic.{eq-false-eq-not-eq-true}
-use native.Mathlib.Nat.{mod-eq-zero-of-dvd, dvd-of-mod-eq-zero, pos-of-ne-zero, lt-of-not-le}
+use native.Mathlib.Nat.{zero-add, mod-eq-zero-of-dvd, dvd-of-mod-eq-zero, pos-of-ne-zero, lt-of-not-le}
 use native.Mathlib.Omega.{arith}
 use lib.Dec.{ltb, eqb}
 use lib.ListN.{length, getD}
@@ -58,13 +58,12 @@ then-exact b r P is p D exact stand =
     let h = stand s d in
     not-earlier r s (omega (arith, h .at-stage)) (λ e. omega (arith, h .at-train)) (λ e f. h .at-number))
 
--- the trains one after another
-pub trains-exact :
+-- the trains one after another, each with its conditions
+pub each-exact :
     (n : ℕ) (check : ℕ → Entry → Outcome) (C : ℕ → Entry → Refusal → Type 0) → ((i : ℕ) (e : Entry) → AllStand n i 0 (C i e)) →
     (es : List Entry) → ((k : ℕ) → k < length es → Exact (check k (getD es k noEntry)) (C k (getD es k noEntry))) →
     Exact (firstRefusal check 0 es) (λ r. (k : ℕ) × (k < length es) × C k (getD es k noEntry) r)
-trains-exact n check C stand es exact =
-    let zero-add : (k : ℕ) → 0 + k ≡ k = λ k. omega arith in
+each-exact n check C stand es exact =
     exact-same _ _ _
     (λ r. (
       (λ w. (w .0, w .1, subst (λ (j : ℕ). C j (getD es (w .0) noEntry) r) (zero-add (w .0)) (w .2))),
@@ -135,7 +134,7 @@ checked-exact row =
     exact-same _ _ _ (λ r. (there r, back r))
     (test-then _ TrainCount (numbers ∣ length row → ⊥) ragged _ _
     (test-then _ TrainCount (longestRow < length row) (ltb-is longestRow (length row)) _ _
-    (trains-exact 1 entryCheck EntryCondition entry-stands (entries row) (λ k h. entry-exact k (getD (entries row) k noEntry)))
+    (each-exact 1 entryCheck EntryCondition entry-stands (entries row) (λ k h. entry-exact k (getD (entries row) k noEntry)))
     trains-later)
     (λ s. ⊎-elim (λ c early. earlier-irrefl TrainCount (subst (λ (x : Refusal). Earlier x TrainCount) (c .0) early)) (trains-later s)))
   where

@@ -29,7 +29,7 @@ use Rattle.table.specs.Given.{TooManyTicks, TooLong, Condition, stage, E
 use Rattle.table.specs.Answer.{isAbove, multipleCheck, multipleChecked, tooMany, tooLong, ticksCheck, ticksChecked, refusal}
 use Rattle.table.proofs.Order.{not-earlier}
 use Rattle.table.proofs.Exactly.{Exact, test-exact, or-else-exact, exact-same}
-use Rattle.table.proofs.Conditions.{Stands, AllStand, stands-test, or-is, trains-exact, Some, CheckedCondition, checked-exact, checked-condition, Sound, AllSound, checked-sound}
+use Rattle.table.proofs.Conditions.{Stands, AllStand, stands-test, or-is, each-exact, Some, CheckedCondition, checked-exact, checked-condition, Sound, AllSound, checked-sound}
 
 -- ---- Core laws
 
@@ -93,7 +93,7 @@ multiple-stands es i e = stands-test (TickTooFine i) _ 2 i 0 (record { at-stage 
 
 multiple-exact : (es : List Entry) → AllSound es → Exact (multipleChecked es) (Some es (MultipleCondition es))
 multiple-exact es sound =
-    trains-exact 2 (multipleCheck es) (MultipleCondition es) (multiple-stands es) es
+    each-exact 2 (multipleCheck es) (MultipleCondition es) (multiple-stands es) es
     (λ k h.
     let pos = multiple-pos (take (suc k) es) (sound-take (suc k) es sound) in
     let passes = running-above (denominators (take (suc k) es)) pos in
@@ -127,7 +127,7 @@ long-one tick i e pa s w =
 
 long-exact : (es : List Entry) → AllSound es → Exact (ticksChecked (tick es) es) (Some es (LongCondition (tick es)))
 long-exact es sound =
-    trains-exact 3 (ticksCheck (tick es)) (LongCondition (tick es)) (long-stands (tick es)) es
+    each-exact 3 (ticksCheck (tick es)) (LongCondition (tick es)) (long-stands (tick es)) es
     (λ k h. long-one (tick es) k (getD es k noEntry) (omega arith) (sound k h) (ticks-at es k sound h))
 
 -- ---- All refusals of a table
