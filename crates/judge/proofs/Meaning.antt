@@ -147,12 +147,18 @@ module _ (row : List ℕ) where
       there (accepted d e f q) h = not-shown q h (λ z. omega arith)
       there (meets i j d e f q) h = not-shown q h (λ z. omega arith)
 
-  pub refuse-only : (number train : ℕ) → paper (verdict row) ≡ refuse number train → (r : Refusal) × Given row r
+  pub refuse-only :
+      (number train : ℕ) → paper (verdict row) ≡ refuse number train →
+      (r : Refusal) × Given row r × (refusals.paper r ≡ record { number = number; place = train })
   unfolding kind
   refuse-only number train h = go (view row)
     where
-      go : View row → (r : Refusal) × Given row r
-      go (refused r e q) = (r, refused-exactly row r .0 e)
+      go : View row → (r : Refusal) × Given row r × (refusals.paper r ≡ record { number = number; place = train })
+      go (refused r e q) =
+          let k = ap paper (sym q) ∙ h in
+          let a : refusals.paper r .number ≡ number = cc in
+          let b : refusals.paper r .place ≡ train = cc in
+          (r, refused-exactly row r .0 e, λ i. record { number = a i; place = b i })
       go (accepted d e f q) = not-shown q h (λ z. omega arith)
       go (meets i j d e f q) = not-shown q h (λ z. omega arith)
 

@@ -21,11 +21,13 @@ pub record Promises : Type 0 where
   pub pairs-before :
       (n : ℕ) (before behind : List Places) (p : Places) → pairs n ≡ before ++ p ∷ behind →
       (q : Places) → In q before ↔ (PairOf n q × Before q p)
-  -- R2. A row is refused with a number and a train exactly when the paper says; no other row is refused.
+  -- R2. A row is refused with a number and a train exactly when the paper says, and with no other number or train.
   pub refuse-exactly :
       (row : List ℕ) (r : Refusal) →
       (paper (verdict row) ≡ refuse (refusals.paper r .number) (refusals.paper r .place)) ↔ Given row r
-  pub refuse-only : (row : List ℕ) (number train : ℕ) → paper (verdict row) ≡ refuse number train → (r : Refusal) × Given row r
+  pub refuse-only :
+      (row : List ℕ) (number train : ℕ) → paper (verdict row) ≡ refuse number train →
+      (r : Refusal) × Given row r × (refusals.paper r ≡ record { number = number; place = train })
   -- V2. A row that is not refused is accepted exactly when no tick, over unbounded time, is claimed by two trains at different
   -- positions of the table.
   pub accept-exactly :
