@@ -37,8 +37,11 @@ pub record Stands (n i k : ℕ) (s : Refusal) : Type 0 where
 abbrev pub AllStand : (n i k : ℕ) → (Refusal → Type 0) → Type 0
 AllStand n i k C = (s : Refusal) → C s → Stands n i k s
 
-pub stands-test : (r : Refusal) (P : Type 0) (n i k : ℕ) → Stands n i k r → AllStand n i k (λ s. (s ≡ r) × P)
-stands-test r P n i k h s c = subst (Stands n i k) (sym (c .0)) h
+-- a single refusal stands at its own stage, train and number
+pub stands-test :
+    (r : Refusal) (P : Type 0) (k : ℕ) → k ≤ paper r .number → AllStand (stage r) (paper r .place) k (λ s. (s ≡ r) × P)
+stands-test r P k h s c =
+    subst (Stands (stage r) (paper r .place) k) (sym (c .0)) (record { at-stage = refl; at-train = refl; at-number = h })
 
 -- one test, and then what does not come before it
 test-then :
@@ -101,23 +104,18 @@ or-is false c p q = ((λ t. inr (q .0 t)), ⊎-elim (λ w. absurd (false-not-tru
 entry-exact : (i : ℕ) (e : Entry) → Exact (entryCheck i e) (EntryCondition i e)
 unfolding entryCheck noDenominator noTime
 entry-exact i e =
-    let three : (k : ℕ) → k ≤ 3 → (P : Type 0) → AllStand 1 i k (λ s. (s ≡ ZeroTime i) × P) =
-    λ k h P. stands-test (ZeroTime i) P 1 i k (record { at-stage = refl; at-train = refl; at-number = h }) in
-    let four : (k : ℕ) → k ≤ 4 → (P : Type 0) → AllStand 1 i k (λ s. (s ≡ DurationAbovePeriod i) × P) =
-    λ k h P. stands-test (DurationAbovePeriod i) P 1 i k (record { at-stage = refl; at-train = refl; at-number = h }) in
     then-exact _ _ (NoDenominator e)
     (or-is _ _ (eqb-is (e .phase .denominator) 0) (or-is _ _ (eqb-is (e .period .denominator) 0) (eqb-is (e .duration .denominator) 0)))
     _ _
     (then-exact _ _ (NoTime e) (or-is _ _ (eqb-is (e .period .numerator) 0) (eqb-is (e .duration .numerator) 0)) _ _
     (test-exact _ _ _ ((λ t. t), (λ t. t)))
-    (four 3 (omega arith) _))
-    (λ s. ⊎-elim (three 2 (omega arith) _ s) (four 2 (omega arith) _ s))
+    (stands-test (DurationAbovePeriod i) _ 3 (omega arith)))
+    (λ s. ⊎-elim (stands-test (ZeroTime i) _ 2 (omega arith) s) (stands-test (DurationAbovePeriod i) _ 2 (omega arith) s))
 
 pub entry-stands : (i : ℕ) (e : Entry) → AllStand 1 i 0 (EntryCondition i e)
 entry-stands i e s =
-    ⊎-elim (stands-test (ZeroDenominator i) _ 1 i 0 (record { at-stage = refl; at-train = refl; at-number = omega arith }) s)
-    (⊎-elim (stands-test (ZeroTime i) _ 1 i 0 (record { at-stage = refl; at-train = refl; at-number = omega arith }) s)
-    (stands-test (DurationAbovePeriod i) _ 1 i 0 (record { at-stage = refl; at-train = refl; at-number = omega arith }) s))
+    ⊎-elim (stands-test (ZeroDenominator i) _ 0 (omega arith) s)
+    (⊎-elim (stands-test (ZeroTime i) _ 0 (omega arith) s) (stands-test (DurationAbovePeriod i) _ 0 (omega arith) s))
 
 -- Some train of the list has the condition C at its position.
 abbrev pub Some : List Entry → (ℕ → Entry → Refusal → Type 0) → Refusal → Type 0

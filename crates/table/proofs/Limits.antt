@@ -89,7 +89,7 @@ abbrev MultipleCondition : List Entry → ℕ → Entry → Refusal → Type 0
 MultipleCondition es i e r = (r ≡ TickTooFine i) × (limit < multiple (take (suc i) es))
 
 multiple-stands : (es : List Entry) (i : ℕ) (e : Entry) → AllStand 2 i 0 (MultipleCondition es i e)
-multiple-stands es i e = stands-test (TickTooFine i) _ 2 i 0 (record { at-stage = refl; at-train = refl; at-number = omega arith })
+multiple-stands es i e = stands-test (TickTooFine i) _ 0 (omega arith)
 
 multiple-exact : (es : List Entry) → AllSound es → Exact (multipleChecked es) (Some es (MultipleCondition es))
 multiple-exact es sound =
@@ -114,7 +114,7 @@ abbrev LongCondition : Fraction → ℕ → Entry → Refusal → Type 0
 LongCondition tick i e r = (r ≡ TimeTooLong i) × TooLong tick e
 
 long-stands : (tick : Fraction) (i : ℕ) (e : Entry) → AllStand 3 i 0 (LongCondition tick i e)
-long-stands tick i e = stands-test (TimeTooLong i) _ 3 i 0 (record { at-stage = refl; at-train = refl; at-number = omega arith })
+long-stands tick i e = stands-test (TimeTooLong i) _ 0 (omega arith)
 
 long-one :
     (tick : Fraction) (i : ℕ) (e : Entry) → 0 < tick .numerator → Sound e → WholeTimes tick e →
