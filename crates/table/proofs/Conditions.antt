@@ -1,7 +1,7 @@
--- Refusals 1 to 4 are given exactly when the paper says; and what is so of a row that passes them.
--- Core: then-exact, each-exact, entry-exact, checked-exact. The rest follows from these.
+-- Refusals 1 to 4 are given exactly when the paper says; the paper's conditions by stages; and what is so of a row that
+-- passes refusals 1 to 4. Core: then-exact, each-exact, entry-exact, checked-exact, conditions. The rest follows from these.
 -- Assumes nothing.
-use Prim.Native.Nat.{ℕ, _%_, _<_, _≤_, _∣_}
+use Prim.Native.Nat.{ℕ, suc, _%_, _<_, _≤_, _∣_}
 use mathlib.Core.Path.{_≡_, refl, sym, ap, subst}
 use mathlib.Core.Bool.{Bool, true, false, not, _||_}
 use mathlib.Core.Logic.{_↔_, _⊎_, inl, inr, ⊎-elim}
@@ -10,19 +10,20 @@ use mathlib.Mathlib.Data.Bool.Basic.{eq-false-eq-not-eq-true}
 use native.Mathlib.Nat.{zero-add, mod-eq-zero-of-dvd, dvd-of-mod-eq-zero, pos-of-ne-zero, lt-of-not-le}
 use native.Mathlib.Omega.{arith}
 use lib.Dec.{ltb, eqb}
-use lib.ListN.{length, getD}
+use lib.ListN.{length, getD, take}
 use borrow.Author.Tests.{lt-ltb, ltb-true, eq-eqb, eqb-true, eqb-false, ne-eqb, not-true}
 use Rattle.refusal.specs.declared.Refusal.{Refusal}
 use Rattle.refusal.specs.declared.Refusal.the-variants.{TrainCount, ZeroDenominator, ZeroTime, DurationAbovePeriod, TickTooFine, TimeTooLong, BufferTooShort, WrongMark, WrongVersion, WrongLength, NotLowestTerms, NotATrain, NoEmptyPlace, Collision, NoTrainThere, WrongCount}
 use Rattle.refusal.specs.Paper.{paper}
-use Rattle.fraction.specs.Answer.{above}
+use Rattle.fraction.specs.declared.Fraction.{Fraction}
+use Rattle.fraction.specs.Answer.{above, limit}
 use Rattle.table.specs.declared.Entry.{Entry}
 use Rattle.table.specs.declared.Outcome.{Outcome}
 use Rattle.table.specs.declared.Outcome.the-variants.{Passed}
-use Rattle.table.specs.Row.{numbers, longestRow, noEntry, entries}
-use Rattle.table.specs.Given.{NoDenominator, NoTime, Condition, stage, Earlier}
+use Rattle.table.specs.Row.{numbers, longestRow, noEntry, entries, multiple, tick}
+use Rattle.table.specs.Given.{NoDenominator, NoTime, TooLong, Condition, stage, Earlier}
 use Rattle.table.specs.Answer.{test, orElse, firstRefusal, noDenominator, noTime, entryCheck, checked}
-use Rattle.table.proofs.Order.{not-earlier, earlier-irrefl}
+use Rattle.table.proofs.Order.{not-earlier, earlier-irrefl, later-stage}
 use Rattle.table.proofs.Exactly.{Exact, false-not-true, test-exact, or-else-exact, exact-same, first-exact}
 
 -- ---- Where a refusal stands in the order
@@ -145,8 +146,7 @@ checked-exact row =
     trains-later : (s : Refusal) → Some (entries row) EntryCondition s → Earlier s TrainCount → ⊥
     trains-later s w =
         let h = entry-stands (w .0) (getD (entries row) (w .0) noEntry) s (w .2) in
-        let behind : 0 < stage s = omega (arith, h .at-stage) in
-        not-earlier TrainCount s (omega arith) (λ q. absurd (omega arith)) (λ q p. absurd (omega arith))
+        later-stage TrainCount s (omega (arith, h .at-stage))
 
     Three : Refusal → Type 0
     Three r =
@@ -163,33 +163,72 @@ checked-exact row =
     back r (inl (q, inr l)) = inr (inl (q, l))
     back r (inr w) = inr (inr w)
 
+-- ---- The paper's conditions, stage by stage
+
+-- Refusal 5, and refusal 6, of the train at position i.
+abbrev pub MultipleCondition : List Entry → ℕ → Entry → Refusal → Type 0
+MultipleCondition es i e r = (r ≡ TickTooFine i) × (limit < multiple (take (suc i) es))
+
+abbrev pub LongCondition : Fraction → ℕ → Entry → Refusal → Type 0
+LongCondition tick i e r = (r ≡ TimeTooLong i) × TooLong tick e
+
+pub multiple-stands : (es : List Entry) (i : ℕ) (e : Entry) → AllStand 2 i 0 (MultipleCondition es i e)
+multiple-stands es i e = stands-test (TickTooFine i) _ 0 (omega arith)
+
+pub long-stands : (tick : Fraction) (i : ℕ) (e : Entry) → AllStand 3 i 0 (LongCondition tick i e)
+long-stands tick i e = stands-test (TimeTooLong i) _ 0 (omega arith)
+
+-- Refusals 5 and 6 of a row.
+abbrev pub LaterCondition : List ℕ → Refusal → Type 0
+LaterCondition row r =
+    Some (entries row) (MultipleCondition (entries row)) r ⊎ Some (entries row) (LongCondition (tick (entries row))) r
+
+-- 1 to 4, and then 5 and 6, are all the conditions of a table
+pub conditions : (row : List ℕ) (r : Refusal) → (CheckedCondition row r ⊎ LaterCondition row r) ↔ Condition row r
+conditions row r = (there r, back r)
+  where
+    there : (r : Refusal) → CheckedCondition row r ⊎ LaterCondition row r → Condition row r
+    there r (inl (inl (q, c))) = subst (Condition row) (sym q) c
+    there r (inl (inr (k, h, inl (q, c)))) = subst (Condition row) (sym q) (h, c)
+    there r (inl (inr (k, h, inr (inl (q, c))))) = subst (Condition row) (sym q) (h, c)
+    there r (inl (inr (k, h, inr (inr (q, c))))) = subst (Condition row) (sym q) (h, c)
+    there r (inr (inl (k, h, (q, c)))) = subst (Condition row) (sym q) (h, c)
+    there r (inr (inr (k, h, (q, c)))) = subst (Condition row) (sym q) (h, c)
+
+    back : (r : Refusal) → Condition row r → CheckedCondition row r ⊎ LaterCondition row r
+    back TrainCount c = inl (inl (refl, c))
+    back (ZeroDenominator k) (h, c) = inl (inr (k, h, inl (refl, c)))
+    back (ZeroTime k) (h, c) = inl (inr (k, h, inr (inl (refl, c))))
+    back (DurationAbovePeriod k) (h, c) = inl (inr (k, h, inr (inr (refl, c))))
+    back (TickTooFine k) (h, c) = inr (inl (k, h, (refl, c)))
+    back (TimeTooLong k) (h, c) = inr (inr (k, h, (refl, c)))
+    back BufferTooShort c = absurd c
+    back WrongMark c = absurd c
+    back WrongVersion c = absurd c
+    back WrongLength c = absurd c
+    back (NotLowestTerms k) c = absurd c
+    back NotATrain c = absurd c
+    back NoEmptyPlace c = absurd c
+    back (Collision k) c = absurd c
+    back NoTrainThere c = absurd c
+    back WrongCount c = absurd c
+
+pub checked-stage : (row : List ℕ) (r : Refusal) → CheckedCondition row r → stage r ≤ 1
+checked-stage row r (inl (q, c)) = omega (arith, ap stage q)
+checked-stage row r (inr (k, h, c)) = omega (arith, entry-stands k (getD (entries row) k noEntry) r c .at-stage)
+
+pub beyond-stage : (row : List ℕ) (r : Refusal) → LaterCondition row r → 1 < stage r
+beyond-stage row r (inl (k, h, c)) = omega (arith, multiple-stands (entries row) k (getD (entries row) k noEntry) r c .at-stage)
+beyond-stage row r (inr (k, h, c)) = omega (arith, long-stands (tick (entries row)) k (getD (entries row) k noEntry) r c .at-stage)
+
 -- the conditions of refusals 1 to 4 are those of the first two stages
 pub checked-condition : (row : List ℕ) (r : Refusal) → CheckedCondition row r ↔ (Condition row r × (stage r ≤ 1))
-checked-condition row r = (there r, λ c. back r (c .0) (c .1))
+checked-condition row r =
+    ((λ c. (conditions row r .0 (inl c), checked-stage row r c)), (λ c. early (conditions row r .1 (c .0)) (c .1)))
   where
-    there : (r : Refusal) → CheckedCondition row r → Condition row r × (stage r ≤ 1)
-    there r (inl (q, c)) = subst (λ (s : Refusal). Condition row s × (stage s ≤ 1)) (sym q) (c, omega arith)
-    there r (inr (k, h, inl (q, c))) = subst (λ (s : Refusal). Condition row s × (stage s ≤ 1)) (sym q) ((h, c), omega arith)
-    there r (inr (k, h, inr (inl (q, c)))) = subst (λ (s : Refusal). Condition row s × (stage s ≤ 1)) (sym q) ((h, c), omega arith)
-    there r (inr (k, h, inr (inr (q, c)))) = subst (λ (s : Refusal). Condition row s × (stage s ≤ 1)) (sym q) ((h, c), omega arith)
-
-    back : (r : Refusal) → Condition row r → stage r ≤ 1 → CheckedCondition row r
-    back TrainCount c l = inl (refl, c)
-    back (ZeroDenominator k) (h, c) l = inr (k, h, inl (refl, c))
-    back (ZeroTime k) (h, c) l = inr (k, h, inr (inl (refl, c)))
-    back (DurationAbovePeriod k) (h, c) l = inr (k, h, inr (inr (refl, c)))
-    back (TickTooFine k) c l = absurd (omega arith)
-    back (TimeTooLong k) c l = absurd (omega arith)
-    back BufferTooShort c l = absurd c
-    back WrongMark c l = absurd c
-    back WrongVersion c l = absurd c
-    back WrongLength c l = absurd c
-    back (NotLowestTerms k) c l = absurd c
-    back NotATrain c l = absurd c
-    back NoEmptyPlace c l = absurd c
-    back (Collision k) c l = absurd c
-    back NoTrainThere c l = absurd c
-    back WrongCount c l = absurd c
+    early : CheckedCondition row r ⊎ LaterCondition row r → stage r ≤ 1 → CheckedCondition row r
+    early (inl c) h = c
+    early (inr d) h = absurd (omega (arith, beyond-stage row r d))
 
 -- ---- A row that passes refusals 1 to 4
 

@@ -1,35 +1,33 @@
 -- The tick and the trains of a row that passes refusals 1 to 4; refusals 5 and 6 exactly, and with them all of a table's.
 -- Core: multiple-pos, divides-at, ticks-at, multiple-exact, long-exact. The rest follows from these.
 -- Assumes nothing.
-use Prim.Native.Nat.{ℕ, zero, suc, _<_, _≤_}
+use Prim.Native.Nat.{ℕ, zero, suc, _<_}
 use mathlib.Core.Path.{_≡_, refl, sym, ap, subst, _∙_}
 use mathlib.Core.Bool.{true}
-use mathlib.Core.Logic.{_↔_, _⊎_, inl, inr}
+use mathlib.Core.Logic.{_↔_}
 use mathlib.Core.List.{List, [], _∷_, _++_}
-use native.Mathlib.Decide.{decLe}
 use native.Mathlib.Omega.{arith}
 use lib.ListN.{length, getD, take, length-take}
 use lib.Seq.{getD-take}
 use borrow.Author.Tests.{lt-ltb, ltb-true}
-use Rattle.refusal.specs.declared.Refusal.{Refusal}
-use Rattle.refusal.specs.declared.Refusal.the-variants.{TrainCount, ZeroDenominator, ZeroTime, DurationAbovePeriod, TickTooFine, TimeTooLong, BufferTooShort, WrongMark, WrongVersion, WrongLength, NotLowestTerms, NotATrain, NoEmptyPlace, Collision, NoTrainThere, WrongCount}
+use Rattle.refusal.specs.declared.Refusal.the-variants.{TickTooFine, TimeTooLong}
 use Rattle.fraction.specs.declared.Fraction.{Fraction}
 use Rattle.fraction.specs.declared.Ticks.the-variants.{Whole}
 use Rattle.fraction.specs.declared.Multiple.{Multiple}
 use Rattle.fraction.specs.declared.Multiple.the-variants.{Above, Within}
 use Rattle.fraction.specs.Value.{AllDivide}
-use Rattle.fraction.specs.Answer.{wholeTicks, limit, running}
+use Rattle.fraction.specs.Answer.{wholeTicks, running}
 use Rattle.fraction.proofs.Lowest.{lowest-terms}
 use Rattle.fraction.proofs.CommonMultiple.{multiple-is, multiple-none-pos, multiple-more-pos, running-above}
 use Rattle.fraction.proofs.WholeTicks.{ticks-exact, ticks-found, ticks-multiple}
 use Rattle.train.specs.Claims.{maxTicks}
 use Rattle.table.specs.declared.Entry.{Entry}
 use Rattle.table.specs.Row.{noEntry, entries, denominatorsOf, denominators, multiple, tick}
-use Rattle.table.specs.Given.{TooManyTicks, TooLong, Condition, stage, Earlier}
+use Rattle.table.specs.Given.{TooManyTicks, TooLong, Condition}
 use Rattle.table.specs.Answer.{isAbove, multipleCheck, multipleChecked, tooMany, tooLong, ticksCheck, ticksChecked, refusal}
-use Rattle.table.proofs.Order.{not-earlier}
+use Rattle.table.proofs.Order.{later-stage}
 use Rattle.table.proofs.Exactly.{Exact, test-exact, or-else-exact, exact-same}
-use Rattle.table.proofs.Conditions.{Stands, AllStand, stands-test, or-is, each-exact, Some, CheckedCondition, checked-exact, checked-condition, Sound, AllSound, checked-sound}
+use Rattle.table.proofs.Conditions.{or-is, each-exact, Some, MultipleCondition, LongCondition, multiple-stands, long-stands, CheckedCondition, LaterCondition, conditions, checked-stage, beyond-stage, checked-exact, Sound, AllSound, checked-sound}
 
 -- ---- Core laws
 
@@ -85,12 +83,6 @@ above-is Above = ((λ t. refl), (λ e. refl))
 above-is (Within n) =
     ((λ t. let z : _≡_ {A = ℕ} 0 1 = cc in absurd (omega arith)), (λ e. let z : _≡_ {A = ℕ} 0 1 = cc in absurd (omega arith)))
 
-abbrev MultipleCondition : List Entry → ℕ → Entry → Refusal → Type 0
-MultipleCondition es i e r = (r ≡ TickTooFine i) × (limit < multiple (take (suc i) es))
-
-multiple-stands : (es : List Entry) (i : ℕ) (e : Entry) → AllStand 2 i 0 (MultipleCondition es i e)
-multiple-stands es i e = stands-test (TickTooFine i) _ 0 (omega arith)
-
 multiple-exact : (es : List Entry) → AllSound es → Exact (multipleChecked es) (Some es (MultipleCondition es))
 multiple-exact es sound =
     each-exact 2 (multipleCheck es) (MultipleCondition es) (multiple-stands es) es
@@ -110,12 +102,6 @@ many-is time tick pm pa (k, e) = (
   (λ w. ap tooMany (ticks-found time tick (w .0) pm pa (w .1)) ∙ lt-ltb maxTicks (w .0) (w .2)),
 )
 
-abbrev LongCondition : Fraction → ℕ → Entry → Refusal → Type 0
-LongCondition tick i e r = (r ≡ TimeTooLong i) × TooLong tick e
-
-long-stands : (tick : Fraction) (i : ℕ) (e : Entry) → AllStand 3 i 0 (LongCondition tick i e)
-long-stands tick i e = stands-test (TimeTooLong i) _ 0 (omega arith)
-
 long-one :
     (tick : Fraction) (i : ℕ) (e : Entry) → 0 < tick .numerator → Sound e → WholeTimes tick e →
     Exact (ticksCheck tick i e) (LongCondition tick i e)
@@ -132,69 +118,18 @@ long-exact es sound =
 
 -- ---- All refusals of a table
 
--- a later stage comes no earlier
-stage-order : (n m i j : ℕ) (r s : Refusal) → Stands n i 0 r → Stands m j 0 s → n < m → Earlier s r → ⊥
-stage-order n m i j r s h k lt =
-    not-earlier r s (omega (arith, h .at-stage, k .at-stage)) (λ q. absurd (omega (arith, h .at-stage, k .at-stage)))
-    (λ q p. absurd (omega (arith, h .at-stage, k .at-stage)))
-
 pub refusal-exact : (row : List ℕ) → Exact (refusal row) (Condition row)
 unfolding refusal
 refusal-exact row =
-    exact-same _ _ _ (λ r. (there r, back r))
-    (or-else-exact _ _ (CheckedCondition row) later (checked-exact row)
+    let es : List Entry = entries row in
+    exact-same _ _ _ (conditions row)
+    (or-else-exact _ _ (CheckedCondition row) (LaterCondition row) (checked-exact row)
     (λ passed.
     let sound = checked-sound row passed in
-    or-else-exact _ _ (Some (entries row) (MultipleCondition (entries row))) (Some (entries row) (LongCondition (tick (entries row))))
-    (multiple-exact (entries row) sound)
-    (λ fine. long-exact (entries row) sound)
+    or-else-exact _ _ (Some es (MultipleCondition es)) (Some es (LongCondition (tick es))) (multiple-exact es sound)
+    (λ passed-too. long-exact es sound)
     (λ r s c d.
-    stage-order 2 3 _ _ r s (multiple-stands (entries row) (c .0) (getD (entries row) (c .0) noEntry) r (c .2))
-    (long-stands (tick (entries row)) (d .0) (getD (entries row) (d .0) noEntry) s (d .2))
-    (omega arith)))
-    checked-first)
-  where
-    later : Refusal → Type 0
-    later r = Some (entries row) (MultipleCondition (entries row)) r ⊎ Some (entries row) (LongCondition (tick (entries row))) r
-
-    -- refusals 1 to 4 come before 5 and 6
-    later-stands : (s : Refusal) → later s → (1 < stage s)
-    later-stands s (inl d) = omega (arith, multiple-stands (entries row) (d .0) (getD (entries row) (d .0) noEntry) s (d .2) .at-stage)
-    later-stands s (inr d) = omega (arith, long-stands (tick (entries row)) (d .0) (getD (entries row) (d .0) noEntry) s (d .2) .at-stage)
-
-    checked-first : (r s : Refusal) → CheckedCondition row r → later s → Earlier s r → ⊥
-    checked-first r s c d =
-        let lo = checked-condition row r .0 c .1 in
-        let hi = later-stands s d in
-        not-earlier r s (omega arith) (λ q. absurd (omega arith)) (λ q p. absurd (omega arith))
-
-    there : (r : Refusal) → CheckedCondition row r ⊎ later r → Condition row r
-    there r (inl c) = checked-condition row r .0 c .0
-    there r (inr (inl (k, h, (q, c)))) = subst (Condition row) (sym q) (h, c)
-    there r (inr (inr (k, h, (q, c)))) = subst (Condition row) (sym q) (h, c)
-
-    -- a condition of the first two stages is one of refusals 1 to 4, and there are two others
-    others : (r : Refusal) → 1 < stage r → Condition row r → later r
-    others TrainCount l c = absurd (omega arith)
-    others (ZeroDenominator k) l c = absurd (omega arith)
-    others (ZeroTime k) l c = absurd (omega arith)
-    others (DurationAbovePeriod k) l c = absurd (omega arith)
-    others (TickTooFine k) l (h, c) = inl (k, h, (refl, c))
-    others (TimeTooLong k) l (h, c) = inr (k, h, (refl, c))
-    others BufferTooShort l c = absurd c
-    others WrongMark l c = absurd c
-    others WrongVersion l c = absurd c
-    others WrongLength l c = absurd c
-    others (NotLowestTerms k) l c = absurd c
-    others NotATrain l c = absurd c
-    others NoEmptyPlace l c = absurd c
-    others (Collision k) l c = absurd c
-    others NoTrainThere l c = absurd c
-    others WrongCount l c = absurd c
-
-    back : (r : Refusal) → Condition row r → CheckedCondition row r ⊎ later r
-    back r c = go (decLe (stage r) 1)
-      where
-        go : Dec (stage r ≤ 1) → CheckedCondition row r ⊎ later r
-        go (yes l) = inl (checked-condition row r .1 (c, l))
-        go (no l) = inr (others r (omega arith) c)
+    let second = multiple-stands es (c .0) (getD es (c .0) noEntry) r (c .2) in
+    let third = long-stands (tick es) (d .0) (getD es (d .0) noEntry) s (d .2) in
+    later-stage r s (omega (arith, second .at-stage, third .at-stage))))
+    (λ r s c d. later-stage r s (omega (arith, checked-stage row r c, beyond-stage row s d))))

@@ -60,3 +60,7 @@ earlier-total r s = stages (three (stage r) (stage s))
 pub earlier-stage : (r s : Refusal) → Earlier r s → stage r ≤ stage s
 earlier-stage r s (inl h) = omega arith
 earlier-stage r s (inr (e, h)) = omega arith
+
+-- so what is of a later stage comes no earlier
+pub later-stage : (r s : Refusal) → stage r < stage s → Earlier s r → ⊥
+later-stage r s h early = omega (arith, earlier-stage s r early)
