@@ -1,66 +1,32 @@
--- Refusals 1 to 4 are given exactly when the paper says; the paper's conditions by stages; and what is so of a row that
--- passes refusals 1 to 4. Core: then-exact, each-exact, entry-exact, checked-exact, conditions. The rest follows from these.
+-- Refusals 1 to 4 of a row are given exactly when the paper says; the paper's conditions by stages; and what is so of a row
+-- that passes refusals 1 to 4. Core: each-exact, checked-exact, conditions. The rest follows from these.
 -- Assumes nothing.
 use Prim.Native.Nat.{ℕ, suc, _%_, _<_, _≤_, _∣_}
 use mathlib.Core.Path.{_≡_, refl, sym, ap, subst}
-use mathlib.Core.Bool.{Bool, true, false, not, _||_}
+use mathlib.Core.Bool.{true, false, not}
 use mathlib.Core.Logic.{_↔_, _⊎_, inl, inr, ⊎-elim}
 use mathlib.Core.List.{List}
 use mathlib.Mathlib.Data.Bool.Basic.{eq-false-eq-not-eq-true}
 use native.Mathlib.Nat.{zero-add, mod-eq-zero-of-dvd, dvd-of-mod-eq-zero, pos-of-ne-zero, lt-of-not-le}
 use native.Mathlib.Omega.{arith}
-use lib.Dec.{ltb, eqb}
+use lib.Dec.{eqb}
 use lib.ListN.{length, getD, take}
-use borrow.Author.Tests.{lt-ltb, ltb-true, eq-eqb, eqb-true, eqb-false, ne-eqb, not-true}
+use borrow.Author.Tests.{eqb-false, ne-eqb, not-true}
 use Rattle.refusal.specs.declared.Refusal.{Refusal}
 use Rattle.refusal.specs.declared.Refusal.the-variants.{TrainCount, ZeroDenominator, ZeroTime, DurationAbovePeriod, TickTooFine, TimeTooLong, BufferTooShort, WrongMark, WrongVersion, WrongLength, NotLowestTerms, NotATrain, NoEmptyPlace, Collision, NoTrainThere, WrongCount}
-use Rattle.refusal.specs.Paper.{paper}
 use Rattle.fraction.specs.declared.Fraction.{Fraction}
 use Rattle.fraction.specs.Answer.{above, limit}
 use Rattle.table.specs.declared.Entry.{Entry}
 use Rattle.table.specs.declared.Outcome.{Outcome}
 use Rattle.table.specs.declared.Outcome.the-variants.{Passed}
 use Rattle.table.specs.Row.{numbers, longestRow, noEntry, entries, multiple, tick}
-use Rattle.table.specs.Given.{NoDenominator, NoTime, TooLong, Condition, stage, Earlier}
-use Rattle.table.specs.Answer.{test, orElse, firstRefusal, noDenominator, noTime, entryCheck, checked}
+use Rattle.table.specs.Given.{TooLong, Condition, stage, Earlier}
+use Rattle.table.specs.Answer.{firstRefusal, entryCheck, checked}
 use Rattle.table.proofs.Order.{not-earlier, earlier-irrefl, later-stage}
-use Rattle.table.proofs.Exactly.{Exact, false-not-true, test-exact, or-else-exact, exact-same, first-exact}
+use Rattle.table.proofs.Exactly.{Exact, exact-same, first-exact}
+use Rattle.table.proofs.TrainCheck.{AllStand, stands-test, test-then, ltb-is, EntryCondition, entry-exact, entry-stands}
 
--- ---- Where a refusal stands in the order
-
--- Stage n, train i, and a number of at least k.
-pub record Stands (n i k : ℕ) (s : Refusal) : Type 0 where
-  pub at-stage : stage s ≡ n
-  pub at-train : paper s .place ≡ i
-  pub at-number : k ≤ paper s .number
-
--- All conditions of C stand so.
-abbrev pub AllStand : (n i k : ℕ) → (Refusal → Type 0) → Type 0
-AllStand n i k C = (s : Refusal) → C s → Stands n i k s
-
--- a single refusal stands at its own stage, train and number
-pub stands-test :
-    (r : Refusal) (P : Type 0) (k : ℕ) → k ≤ paper r .number → AllStand (stage r) (paper r .place) k (λ s. (s ≡ r) × P)
-stands-test r P k h s c =
-    subst (Stands (stage r) (paper r .place) k) (sym (c .0)) (record { at-stage = refl; at-train = refl; at-number = h })
-
--- one test, and then what does not come before it
-test-then :
-    (b : Bool) (r : Refusal) (P : Type 0) → (b ≡ true) ↔ P → (p : Outcome) (D : Refusal → Type 0) → Exact p D →
-    ((s : Refusal) → D s → Earlier s r → ⊥) → Exact (orElse (test b r) p) (λ s. ((s ≡ r) × P) ⊎ D s)
-test-then b r P is p D exact later =
-    or-else-exact (test b r) p (λ s. (s ≡ r) × P) D (test-exact b r P is) (λ passed. exact)
-    (λ q s c d early. later s d (subst (Earlier s) (c .0) early))
-
--- one test of a train, and then others of larger or equal numbers
-pub then-exact :
-    (b : Bool) (r : Refusal) (P : Type 0) → (b ≡ true) ↔ P → (p : Outcome) (D : Refusal → Type 0) → Exact p D →
-    AllStand (stage r) (paper r .place) (paper r .number) D → Exact (orElse (test b r) p) (λ s. ((s ≡ r) × P) ⊎ D s)
-then-exact b r P is p D exact stand =
-    test-then b r P is p D exact
-    (λ s d.
-    let h = stand s d in
-    not-earlier r s (omega (arith, h .at-stage)) (λ e. omega (arith, h .at-train)) (λ e f. h .at-number))
+-- ---- The trains of a row
 
 -- the trains one after another, each with its conditions
 pub each-exact :
@@ -82,41 +48,7 @@ each-exact n check C stand es exact =
     0 es
     (λ k h. subst (λ (j : ℕ). Exact (check j (getD es k noEntry)) (C j (getD es k noEntry))) (sym (zero-add k)) (exact k h)))
 
--- ---- Core laws
-
-eqb-is : (a b : ℕ) → (eqb a b ≡ true) ↔ (a ≡ b)
-eqb-is a b = (eqb-true a b, eq-eqb a b)
-
-ltb-is : (a b : ℕ) → (ltb a b ≡ true) ↔ (a < b)
-ltb-is a b = (ltb-true a b, lt-ltb a b)
-
--- Refusals 2, 3 and 4 of the train at position i.
-abbrev pub EntryCondition : ℕ → Entry → Refusal → Type 0
-EntryCondition i e r =
-    ((r ≡ ZeroDenominator i) × NoDenominator e)
-    ⊎ (((r ≡ ZeroTime i) × NoTime e)
-    ⊎ ((r ≡ DurationAbovePeriod i) × (above (e .duration) (e .period) ≡ true)))
-
--- one condition or another
-pub or-is : {P Q : Type 0} (b c : Bool) → (b ≡ true) ↔ P → (c ≡ true) ↔ Q → ((b || c) ≡ true) ↔ (P ⊎ Q)
-or-is true c p q = ((λ t. inl (p .0 refl)), (λ w. refl))
-or-is false c p q = ((λ t. inr (q .0 t)), ⊎-elim (λ w. absurd (false-not-true (p .1 w))) (q .1))
-
-entry-exact : (i : ℕ) (e : Entry) → Exact (entryCheck i e) (EntryCondition i e)
-unfolding entryCheck noDenominator noTime
-entry-exact i e =
-    then-exact _ _ (NoDenominator e)
-    (or-is _ _ (eqb-is (e .phase .denominator) 0) (or-is _ _ (eqb-is (e .period .denominator) 0) (eqb-is (e .duration .denominator) 0)))
-    _ _
-    (then-exact _ _ (NoTime e) (or-is _ _ (eqb-is (e .period .numerator) 0) (eqb-is (e .duration .numerator) 0)) _ _
-    (test-exact _ _ _ ((λ t. t), (λ t. t)))
-    (stands-test (DurationAbovePeriod i) _ 3 (omega arith)))
-    (λ s. ⊎-elim (stands-test (ZeroTime i) _ 2 (omega arith) s) (stands-test (DurationAbovePeriod i) _ 2 (omega arith) s))
-
-pub entry-stands : (i : ℕ) (e : Entry) → AllStand 1 i 0 (EntryCondition i e)
-entry-stands i e s =
-    ⊎-elim (stands-test (ZeroDenominator i) _ 0 (omega arith) s)
-    (⊎-elim (stands-test (ZeroTime i) _ 0 (omega arith) s) (stands-test (DurationAbovePeriod i) _ 0 (omega arith) s))
+-- ---- Refusals 1 to 4 of a row
 
 -- Some train of the list has the condition C at its position.
 abbrev pub Some : List Entry → (ℕ → Entry → Refusal → Type 0) → Refusal → Type 0
@@ -237,7 +169,6 @@ pub record Sound (e : Entry) : Type 0 where
   pub phase : 0 < e .phase .denominator
   pub period : 0 < e .period .denominator
   pub duration : 0 < e .duration .denominator
-  pub some-period : 0 < e .period .numerator
   pub some-duration : 0 < e .duration .numerator
   pub fits : above (e .duration) (e .period) ≡ false
 
@@ -255,7 +186,6 @@ checked-sound row e k h =
       phase = pos-of-ne-zero (λ z. none (ZeroDenominator k) (inl (refl, inl z)));
       period = pos-of-ne-zero (λ z. none (ZeroDenominator k) (inl (refl, inr (inl z))));
       duration = pos-of-ne-zero (λ z. none (ZeroDenominator k) (inl (refl, inr (inr z))));
-      some-period = pos-of-ne-zero (λ z. none (ZeroTime k) (inr (inl (refl, inl z))));
       some-duration = pos-of-ne-zero (λ z. none (ZeroTime k) (inr (inl (refl, inr z))));
       fits = eq-false-eq-not-eq-true _ .0 (λ t. none (DurationAbovePeriod k) (inr (inr (refl, t))));
     }

@@ -5,6 +5,7 @@ pub mod RunningMultiple
 pub mod Ticking
 pub mod Order
 pub mod Exactly
+pub mod TrainCheck
 pub mod Conditions
 pub mod Limits
 pub mod Readings

@@ -27,7 +27,8 @@ use Rattle.table.specs.Given.{TooManyTicks, TooLong, Condition}
 use Rattle.table.specs.Answer.{isAbove, multipleCheck, multipleChecked, tooMany, tooLong, ticksCheck, ticksChecked, refusal}
 use Rattle.table.proofs.Order.{later-stage}
 use Rattle.table.proofs.Exactly.{Exact, test-exact, or-else-exact, exact-same}
-use Rattle.table.proofs.Conditions.{or-is, each-exact, Some, MultipleCondition, LongCondition, multiple-stands, long-stands, CheckedCondition, LaterCondition, conditions, checked-stage, beyond-stage, checked-exact, Sound, AllSound, checked-sound}
+use Rattle.table.proofs.TrainCheck.{or-is}
+use Rattle.table.proofs.Conditions.{each-exact, Some, MultipleCondition, LongCondition, multiple-stands, long-stands, CheckedCondition, LaterCondition, conditions, checked-stage, beyond-stage, checked-exact, Sound, AllSound, checked-sound}
 
 -- ---- Core laws
 

@@ -6,6 +6,7 @@ use Rattle.fraction.proofs.CommonMultiple.{multiple-is}
 use Rattle.table.specs.Row.{entries, denominators}
 use Rattle.table.specs.Promises.{Promises}
 use Rattle.table.proofs.Entries.{entries-length, entries-at}
+use Rattle.table.proofs.TrainCheck as train
 use Rattle.table.proofs.Readings as readings
 use Rattle.table.proofs.Terms as terms
 
@@ -18,6 +19,10 @@ promises =
       passed-exactly = readings.passed-exactly;
       checked-exactly = readings.checked-exactly;
       checked-passed = readings.checked-passed;
+      entry-two = train.entry-two;
+      entry-three = train.entry-three;
+      entry-four = train.entry-four;
+      entry-passed = train.entry-passed;
       tick-multiple = λ row. (refl, multiple-is (denominators (entries row)));
       tick-limit = readings.passed-limit;
       trains-count = λ row e. (readings.trains-length row, omega (arith, readings.trains-length row, readings.passed-few row e));
