@@ -157,8 +157,8 @@ module _ (row : List ℕ) (r : Reading) (is : r ≡ reading row) where
     unfolding trains
     trains-are = ap (λ (t : Table). trainAt (t .trains)) table-is ∙ train-filled (trains row)
 
-    multiple-is : r .table .tick .denominator ≡ multiple (entries row)
-    multiple-is = ap (λ (t : Table). t .tick .denominator) table-is
+    denominator-is : r .table .tick .denominator ≡ multiple (entries row)
+    denominator-is = ap (λ (t : Table). t .tick .denominator) table-is
 
     limits : (i : ℕ) → i < r .table .count → Limits (trainAt (r .table .trains) i)
     limits i h =
@@ -176,7 +176,7 @@ module _ (row : List ℕ) (r : Reading) (is : r ≡ reading row) where
         (f : Found) (d : ℕ) → f ≡ scan (trainAt (r .table .trains)) (pairs (r .table .count)) 0 → f ≡ Free d →
         v.Accepted (record { multiple = r .table .tick .denominator; divisions = d }) ≡ verdict row
     read-free f d f-is q =
-        ap (λ (l : ℕ). v.Accepted (record { multiple = l; divisions = d })) multiple-is
+        ap (λ (l : ℕ). v.Accepted (record { multiple = l; divisions = d })) denominator-is
         ∙ ap (found (multiple (entries row)) (trainAt (trains row))) (sym q ∙ f-is ∙ walk-is)
         ∙ verdict-found row passes
 
@@ -196,7 +196,7 @@ module _ (row : List ℕ) (r : Reading) (is : r ≡ reading row) where
     read-meets f i j d t f-is q t-is =
         let ticks : t ≡ tickOf (earliest (trainAt (trains row) i) (trainAt (trains row) j)) =
         t-is ∙ ap (λ (g : ℕ → Train). tickOf (earliest (g i) (g j))) trains-are in
-        (λ k. v.Collide (record { first = i; second = j; tick = ticks k }) (record { multiple = multiple-is k; divisions = d }))
+        (λ k. v.Collide (record { first = i; second = j; tick = ticks k }) (record { multiple = denominator-is k; divisions = d }))
         ∙ ap (found (multiple (entries row)) (trainAt (trains row))) (sym q ∙ f-is ∙ walk-is)
         ∙ verdict-found row passes
 
@@ -216,6 +216,6 @@ verdict-read row = go (reading row .outcome) refl
     go Passed e =
         ap (λ (o : Outcome). judgedTable o (reading row .table)) e
         ∙ (λ k.
-        found (multiple-is row (reading row) refl e k) (trains-are row (reading row) refl e k) (walk-is row (reading row) refl e k))
+        found (denominator-is row (reading row) refl e k) (trains-are row (reading row) refl e k) (walk-is row (reading row) refl e k))
         ∙ verdict-found row (passes row (reading row) refl e)
     go (Refused q) e = ap (λ (o : Outcome). judgedTable o (reading row .table)) e ∙ read-refused row (reading row) refl q e

@@ -1,9 +1,10 @@
 -- The laws of the checks: the ways through refusals 1 to 4, and the first refusal of some trains, by the loop that looks for it.
--- Core: the ways of `entryCheck`, first-here, first-on, first-end. The rest follows from these.
+-- Core: answers, the ways of `entryCheck` from its three tests, first-here, first-on, first-end. The rest follows from these.
 -- Assumes nothing.
 use Prim.Native.Nat.{ℕ, suc, _+_, _%_, _<_, _≤_}
 use mathlib.Core.Path.{_≡_, refl, sym, ap, _∙_}
 use mathlib.Core.Bool.{Bool, true, false}
+use mathlib.Core.Logic.{_↔_}
 use mathlib.Core.List.{List}
 use native.Mathlib.Numerals.{add-one}
 use native.Mathlib.Omega.{arith}
@@ -13,6 +14,7 @@ use lib.Seq.{drop-cons}
 use borrow.Author.Tests.{lt-ltb, le-ltb, eq-eqb, ne-eqb}
 use Rattle.refusal.specs.declared.Refusal.{Refusal}
 use Rattle.refusal.specs.declared.Refusal.the-variants.{TrainCount, ZeroDenominator, ZeroTime, DurationAbovePeriod}
+use Rattle.refusal.specs.Paper.{paper}
 use Rattle.fraction.specs.Answer.{above}
 use Rattle.table.specs.declared.Entry.{Entry}
 use Rattle.table.specs.declared.Outcome.{Outcome}
@@ -21,6 +23,9 @@ use Rattle.table.specs.Row.{numbers, longestRow, noEntry, entries}
 use Rattle.table.specs.Answer.{test, orElse, noDenominator, noTime, firstRefusal, entryCheck, checked}
 
 -- ---- Core laws
+
+pub false-not-true : _≡_ {A = Bool} false true → ⊥
+false-not-true e = let z : _≡_ {A = ℕ} 0 1 = cc in omega arith
 
 -- an outcome is one or the other
 pub refused-not-passed : (r : Refusal) → Refused r ≡ Passed → ⊥
@@ -49,29 +54,81 @@ module _ (e : Entry) where
   unfolding noTime
   time-duration q = simp (ne-eqb (e .period .numerator) 0 q)
 
--- the check of one train, from its three tests
-chain : ℕ → (d t a : Bool) → Outcome
-chain i d t a = orElse (test d (ZeroDenominator i)) (orElse (test t (ZeroTime i)) (test a (DurationAbovePeriod i)))
+-- The check of one train, from its three tests.
+abbrev pub threeTests : ℕ → (d t a : Bool) → Outcome
+threeTests i d t a = orElse (test d (ZeroDenominator i)) (orElse (test t (ZeroTime i)) (test a (DurationAbovePeriod i)))
+
+-- two statements of which neither holds
+never : {A B : Type 0} → (A → ⊥) → (B → ⊥) → A ↔ B
+never f g = ((λ a. absurd (f a)), (λ b. absurd (g b)))
+
+-- outcomes of different numbers are not one, where 0 stands for none
+number : Outcome → ℕ
+number Passed = 0
+number (Refused r) = paper r .number
+
+differ : {o p : Outcome} → (number o ≡ number p → ⊥) → o ≡ p → ⊥
+differ f e = f (ap number e)
+
+-- Its four answers, from its three tests.
+pub record Answers (i : ℕ) (d t a : Bool) (o : Outcome) : Type 0 where
+  pub two : (o ≡ Refused (ZeroDenominator i)) ↔ (d ≡ true)
+  pub three : (o ≡ Refused (ZeroTime i)) ↔ ((d ≡ false) × (t ≡ true))
+  pub four : (o ≡ Refused (DurationAbovePeriod i)) ↔ ((d ≡ false) × (t ≡ false) × (a ≡ true))
+  pub passes : (o ≡ Passed) ↔ ((d ≡ false) × (t ≡ false) × (a ≡ false))
+
+answers :
+    (i : ℕ) (d t a : Bool) →
+    Answers i d t a (threeTests i d t a)
+unfolding number
+answers i true t a =
+    record {
+      two = ((λ e. refl), (λ c. refl));
+      three = never (differ (λ z. omega arith)) (λ c. false-not-true (sym (c .0)));
+      four = never (differ (λ z. omega arith)) (λ c. false-not-true (sym (c .0)));
+      passes = never (differ (λ z. omega arith)) (λ c. false-not-true (sym (c .0)));
+    }
+answers i false true a =
+    record {
+      two = never (differ (λ z. omega arith)) false-not-true;
+      three = ((λ e. (refl, refl)), (λ c. refl));
+      four = never (differ (λ z. omega arith)) (λ c. false-not-true (sym (c .1)));
+      passes = never (differ (λ z. omega arith)) (λ c. false-not-true (sym (c .1)));
+    }
+answers i false false true =
+    record {
+      two = never (differ (λ z. omega arith)) false-not-true;
+      three = never (differ (λ z. omega arith)) (λ c. false-not-true (c .1));
+      four = ((λ e. (refl, refl, refl)), (λ c. refl));
+      passes = never (differ (λ z. omega arith)) (λ c. false-not-true (sym (c .2)));
+    }
+answers i false false false =
+    record {
+      two = never (differ (λ z. omega arith)) false-not-true;
+      three = never (differ (λ z. omega arith)) (λ c. false-not-true (c .1));
+      four = never (differ (λ z. omega arith)) (λ c. false-not-true (c .2));
+      passes = ((λ e. (refl, refl, refl)), (λ c. refl));
+    }
+
+pub ways : (i : ℕ) (e : Entry) → Answers i (noDenominator e) (noTime e) (above (e .duration) (e .period)) (entryCheck i e)
+unfolding entryCheck
+ways i e = answers i (noDenominator e) (noTime e) (above (e .duration) (e .period))
 
 -- the ways through it, each after those before it
 module _ (i : ℕ) (e : Entry) (d : Bool) (d-is : d ≡ noDenominator e) where
   pub entry-denominator : d ≡ true → Refused (ZeroDenominator i) ≡ entryCheck i e
-  unfolding chain entryCheck
-  entry-denominator h = ap (λ (x : Bool). chain i x (noTime e) (above (e .duration) (e .period))) (sym h ∙ d-is)
+  entry-denominator h = sym (ways i e .two .1 (sym d-is ∙ h))
 
   module _ (d-not : d ≡ false) (t : Bool) (t-is : t ≡ noTime e) where
     pub entry-time : t ≡ true → Refused (ZeroTime i) ≡ entryCheck i e
-    unfolding chain entryCheck
-    entry-time h = λ k. chain i ((sym d-not ∙ d-is) k) ((sym h ∙ t-is) k) (above (e .duration) (e .period))
+    entry-time h = sym (ways i e .three .1 (sym d-is ∙ d-not, sym t-is ∙ h))
 
     module _ (t-not : t ≡ false) (a : Bool) (a-is : a ≡ above (e .duration) (e .period)) where
       pub entry-above : a ≡ true → Refused (DurationAbovePeriod i) ≡ entryCheck i e
-      unfolding chain entryCheck
-      entry-above h = λ k. chain i ((sym d-not ∙ d-is) k) ((sym t-not ∙ t-is) k) ((sym h ∙ a-is) k)
+      entry-above h = sym (ways i e .four .1 (sym d-is ∙ d-not, sym t-is ∙ t-not, sym a-is ∙ h))
 
       pub entry-passes : a ≡ false → Passed ≡ entryCheck i e
-      unfolding chain entryCheck
-      entry-passes h = λ k. chain i ((sym d-not ∙ d-is) k) ((sym t-not ∙ t-is) k) ((sym h ∙ a-is) k)
+      entry-passes h = sym (ways i e .passes .1 (sym d-is ∙ d-not, sym t-is ∙ t-not, sym a-is ∙ h))
 
 -- the first refusal is that of the first train, or else of the others
 module _ (check : ℕ → Entry → Outcome) (es : List Entry) where

@@ -17,7 +17,7 @@ use Rattle.table.specs.Row.{noEntry}
 use Rattle.table.specs.Given.{Earlier}
 use Rattle.table.specs.Answer.{test, orElse, firstRefusal}
 use Rattle.table.proofs.Order.{earlier-irrefl, earlier-total}
-use Rattle.table.proofs.Checks.{refused-not-passed}
+use Rattle.table.proofs.Checks.{false-not-true, refused-not-passed}
 
 -- The outcome passes only where no condition of C holds, and refuses only with the first of those that hold.
 pub record Exact (o : Outcome) (C : Refusal → Type 0) : Type 0 where
@@ -29,9 +29,6 @@ pub record Exact (o : Outcome) (C : Refusal → Type 0) : Type 0 where
 -- a refusal carries what it was made with
 refused-one : {r s : Refusal} → Refused r ≡ Refused s → r ≡ s
 refused-one e = cc
-
-pub false-not-true : _≡_ {A = Bool} false true → ⊥
-false-not-true e = let z : _≡_ {A = ℕ} 0 1 = cc in omega arith
 
 -- one test
 pub test-exact : (b : Bool) (r : Refusal) (P : Type 0) → (b ≡ true) ↔ P → Exact (test b r) (λ s. (s ≡ r) × P)

@@ -30,6 +30,7 @@ use Rattle.table.specs.Given.{Condition, stage, Given}
 use Rattle.table.specs.Answer.{orElse, checked, multipleChecked, ticksChecked, refusal, noTrain, tableOf, refused, readAfter, reading}
 use Rattle.table.specs.Inside.{readTicks}
 use Rattle.table.proofs.Entries.{entries-few}
+use Rattle.table.proofs.Checks.{refused-not-passed}
 use Rattle.table.proofs.Order.{earlier-stage}
 use Rattle.table.proofs.Exactly.{Exact, exact-same, exact-refused, exact-passed}
 use Rattle.table.proofs.Conditions.{AllSound, checked-sound, checked-length, checked-exact, checked-condition, not-above}
@@ -128,7 +129,7 @@ module _ (row : List ℕ) where
           (o : Outcome) → checked row ≡ o →
           orElse o (orElse (multipleChecked (entries row)) (ticksChecked (tick (entries row)) (entries row))) ≡ Passed → checked row ≡ Passed
       go Passed q e = q
-      go (Refused r) q e = let z : _≡_ {A = ℕ} 0 1 = cc in absurd (omega arith)
+      go (Refused r) q e = absurd (refused-not-passed r e)
 
   pub passed-sound : refusal row ≡ Passed → AllSound (entries row)
   passed-sound e = checked-sound row (passed-checked e)

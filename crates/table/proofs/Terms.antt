@@ -12,7 +12,7 @@ use native.Mathlib.Omega.{arith}
 use lib.Dec.{eqb, ltb}
 use lib.ListN.{length, getD, take, length-map}
 use borrow.Author.Tests.{eqb-false, ne-eqb}
-use Rattle.refusal.specs.declared.Refusal.the-variants.{TrainCount, ZeroDenominator, ZeroTime, DurationAbovePeriod, TickTooFine}
+use Rattle.refusal.specs.declared.Refusal.the-variants.{TrainCount, TickTooFine}
 use Rattle.fraction.specs.declared.Fraction.{Fraction}
 use Rattle.fraction.specs.Answer.{lowest, above, commonMultiple, running}
 use Rattle.fraction.proofs.Lowest.{lowest-none, lowest-same, lowest-terms, lowest-only, lowest-twice, same-trans}
@@ -24,7 +24,7 @@ use Rattle.table.specs.declared.Reading.{Reading}
 use Rattle.table.specs.Row.{numbers, longestRow, noEntry, entries, denominators, tick, trainOf, SameTime, SameEntry, SameRow}
 use Rattle.table.specs.Answer.{test, orElse, firstRefusal, noDenominator, noTime, entryCheck, checked, isAbove, multipleCheck, multipleChecked, tooLong, ticksCheck, ticksChecked, refusal, filled, tableOf, readAfter, reading}
 use Rattle.table.proofs.Entries.{entries-length}
-use Rattle.table.proofs.Exactly.{false-not-true}
+use Rattle.table.proofs.Checks.{false-not-true, threeTests}
 
 -- ---- Lowest terms
 
@@ -109,20 +109,17 @@ above-lowest-entry e q =
 entry-lowest : (i : ℕ) (e : Entry) → entryCheck i (lowestEntry e) ≡ entryCheck i e
 unfolding entryCheck
 entry-lowest i e =
-    (λ k. chain (no-denominator-lowest e k) (no-time-lowest e k) (above (lowest (e .duration)) (lowest (e .period)))) ∙ go (noDenominator e) refl
+    (λ k. threeTests i (no-denominator-lowest e k) (no-time-lowest e k) (above (lowest (e .duration)) (lowest (e .period)))) ∙ go (noDenominator e) refl
   where
-    chain : (d t a : Bool) → Outcome
-    chain d t a = orElse (test d (ZeroDenominator i)) (orElse (test t (ZeroTime i)) (test a (DurationAbovePeriod i)))
-
     -- the order is looked at only where there are denominators
     go :
         (d : Bool) → noDenominator e ≡ d →
-        chain (noDenominator e) (noTime e) (above (lowest (e .duration)) (lowest (e .period)))
-        ≡ chain (noDenominator e) (noTime e) (above (e .duration) (e .period))
+        threeTests i (noDenominator e) (noTime e) (above (lowest (e .duration)) (lowest (e .period)))
+        ≡ threeTests i (noDenominator e) (noTime e) (above (e .duration) (e .period))
     go true q =
-        ap (λ (d : Bool). chain d (noTime e) (above (lowest (e .duration)) (lowest (e .period)))) q
-        ∙ sym (ap (λ (d : Bool). chain d (noTime e) (above (e .duration) (e .period))) q)
-    go false q = ap (chain (noDenominator e) (noTime e)) (above-lowest-entry e q)
+        ap (λ (d : Bool). threeTests i d (noTime e) (above (lowest (e .duration)) (lowest (e .period)))) q
+        ∙ sym (ap (λ (d : Bool). threeTests i d (noTime e) (above (e .duration) (e .period))) q)
+    go false q = ap (threeTests i (noDenominator e) (noTime e)) (above-lowest-entry e q)
 
 long-lowest : (tick : Fraction) (i : ℕ) (e : Entry) → ticksCheck tick i (lowestEntry e) ≡ ticksCheck tick i e
 unfolding ticksCheck tooLong

@@ -2,7 +2,7 @@
 -- Core: then-exact, no-denominator-is, no-time-is, entry-exact. The rest follows from these.
 -- Assumes nothing.
 use Prim.Native.Nat.{ℕ, _<_, _≤_}
-use mathlib.Core.Path.{_≡_, refl, sym, ap, subst, _∙_}
+use mathlib.Core.Path.{_≡_, refl, sym, subst, _∙_}
 use mathlib.Core.Bool.{Bool, true, false, _||_}
 use mathlib.Core.Logic.{_↔_, _⊎_, inl, inr, ⊎-elim}
 use mathlib.Mathlib.Data.Bool.Basic.{eq-false-eq-not-eq-true}
@@ -18,8 +18,9 @@ use Rattle.table.specs.declared.Outcome.{Outcome}
 use Rattle.table.specs.declared.Outcome.the-variants.{Passed, Refused}
 use Rattle.table.specs.Given.{NoDenominator, NoTime, stage, Earlier}
 use Rattle.table.specs.Answer.{test, orElse, noDenominator, noTime, entryCheck}
+use Rattle.table.proofs.Checks.{false-not-true, ways}
 use Rattle.table.proofs.Order.{not-earlier}
-use Rattle.table.proofs.Exactly.{Exact, false-not-true, test-exact, or-else-exact}
+use Rattle.table.proofs.Exactly.{Exact, test-exact, or-else-exact}
 
 -- ---- Where a refusal stands in the order
 
@@ -108,71 +109,15 @@ entry-stands i e s =
 not-is : {P : Type 0} (b : Bool) → (b ≡ true) ↔ P → (b ≡ false) ↔ (P → ⊥)
 not-is b is = ((λ f p. false-not-true (sym f ∙ is .1 p)), (λ none. eq-false-eq-not-eq-true b .0 (λ t. none (is .0 t))))
 
--- two statements of which neither holds
-never : {A B : Type 0} → (A → ⊥) → (B → ⊥) → A ↔ B
-never f g = ((λ a. absurd (f a)), (λ b. absurd (g b)))
-
--- outcomes of different numbers are not one, where 0 stands for none
-number : Outcome → ℕ
-number Passed = 0
-number (Refused r) = paper r .number
-
-differ : {o p : Outcome} → (number o ≡ number p → ⊥) → o ≡ p → ⊥
-differ f e = f (ap number e)
-
--- Its four answers, from its three tests.
-record Answers (i : ℕ) (d t a : Bool) (o : Outcome) : Type 0 where
-  two : (o ≡ Refused (ZeroDenominator i)) ↔ (d ≡ true)
-  three : (o ≡ Refused (ZeroTime i)) ↔ ((d ≡ false) × (t ≡ true))
-  four : (o ≡ Refused (DurationAbovePeriod i)) ↔ ((d ≡ false) × (t ≡ false) × (a ≡ true))
-  passes : (o ≡ Passed) ↔ ((d ≡ false) × (t ≡ false) × (a ≡ false))
-
-answers :
-    (i : ℕ) (d t a : Bool) →
-    Answers i d t a (orElse (test d (ZeroDenominator i)) (orElse (test t (ZeroTime i)) (test a (DurationAbovePeriod i))))
-unfolding number
-answers i true t a =
-    record {
-      two = ((λ e. refl), (λ c. refl));
-      three = never (differ (λ z. omega arith)) (λ c. false-not-true (sym (c .0)));
-      four = never (differ (λ z. omega arith)) (λ c. false-not-true (sym (c .0)));
-      passes = never (differ (λ z. omega arith)) (λ c. false-not-true (sym (c .0)));
-    }
-answers i false true a =
-    record {
-      two = never (differ (λ z. omega arith)) false-not-true;
-      three = ((λ e. (refl, refl)), (λ c. refl));
-      four = never (differ (λ z. omega arith)) (λ c. false-not-true (sym (c .1)));
-      passes = never (differ (λ z. omega arith)) (λ c. false-not-true (sym (c .1)));
-    }
-answers i false false true =
-    record {
-      two = never (differ (λ z. omega arith)) false-not-true;
-      three = never (differ (λ z. omega arith)) (λ c. false-not-true (c .1));
-      four = ((λ e. (refl, refl, refl)), (λ c. refl));
-      passes = never (differ (λ z. omega arith)) (λ c. false-not-true (sym (c .2)));
-    }
-answers i false false false =
-    record {
-      two = never (differ (λ z. omega arith)) false-not-true;
-      three = never (differ (λ z. omega arith)) (λ c. false-not-true (c .1));
-      four = never (differ (λ z. omega arith)) (λ c. false-not-true (c .2));
-      passes = ((λ e. (refl, refl, refl)), (λ c. refl));
-    }
-
 module _ (i : ℕ) (e : Entry) where
-  ways : Answers i (noDenominator e) (noTime e) (above (e .duration) (e .period)) (entryCheck i e)
-  unfolding entryCheck
-  ways = answers i (noDenominator e) (noTime e) (above (e .duration) (e .period))
-
   pub entry-two : (entryCheck i e ≡ Refused (ZeroDenominator i)) ↔ NoDenominator e
-  entry-two = let d = no-denominator-is e in ((λ q. d .0 (ways .two .0 q)), (λ c. ways .two .1 (d .1 c)))
+  entry-two = let d = no-denominator-is e in ((λ q. d .0 (ways i e .two .0 q)), (λ c. ways i e .two .1 (d .1 c)))
 
   pub entry-three : (entryCheck i e ≡ Refused (ZeroTime i)) ↔ ((NoDenominator e → ⊥) × NoTime e)
   entry-three =
       let d = not-is (noDenominator e) (no-denominator-is e) in
       let t = no-time-is e in
-      ((λ q. let c = ways .three .0 q in (d .0 (c .0), t .0 (c .1))), (λ c. ways .three .1 (d .1 (c .0), t .1 (c .1))))
+      ((λ q. let c = ways i e .three .0 q in (d .0 (c .0), t .0 (c .1))), (λ c. ways i e .three .1 (d .1 (c .0), t .1 (c .1))))
 
   pub entry-four :
       (entryCheck i e ≡ Refused (DurationAbovePeriod i))
@@ -180,8 +125,8 @@ module _ (i : ℕ) (e : Entry) where
   entry-four =
       let d = not-is (noDenominator e) (no-denominator-is e) in
       let t = not-is (noTime e) (no-time-is e) in (
-        (λ q. let c = ways .four .0 q in (d .0 (c .0), t .0 (c .1), c .2)),
-        (λ c. ways .four .1 (d .1 (c .0), t .1 (c .1), c .2)),
+        (λ q. let c = ways i e .four .0 q in (d .0 (c .0), t .0 (c .1), c .2)),
+        (λ c. ways i e .four .1 (d .1 (c .0), t .1 (c .1), c .2)),
       )
 
   pub entry-passed :
@@ -189,6 +134,6 @@ module _ (i : ℕ) (e : Entry) where
   entry-passed =
       let d = not-is (noDenominator e) (no-denominator-is e) in
       let t = not-is (noTime e) (no-time-is e) in (
-        (λ q. let c = ways .passes .0 q in (d .0 (c .0), t .0 (c .1), c .2)),
-        (λ c. ways .passes .1 (d .1 (c .0), t .1 (c .1), c .2)),
+        (λ q. let c = ways i e .passes .0 q in (d .0 (c .0), t .0 (c .1), c .2)),
+        (λ c. ways i e .passes .1 (d .1 (c .0), t .1 (c .1), c .2)),
       )
