@@ -1,17 +1,21 @@
 -- The laws of lowest terms.
--- Core: lowest-parts, lowest-none, lowest-same, lowest-terms, lowest-only. The rest follows from these.
+-- Core: lowest-parts, lowest-none, lowest-same, lowest-terms, lowest-only, is-lowest. The rest follows from these.
 -- Assumes nothing.
 use Prim.Native.Nat.{ℕ, _*_, _/_, _<_, _≤_, _∣_}
 use mathlib.Core.Path.{_≡_, refl, sym, ap, subst, _∙_}
+use mathlib.Core.Bool.{true, false, false≢true}
+use mathlib.Core.Logic.{_↔_}
 use native.Mathlib.Nat.{pos-of-dvd-of-pos, dvd-antisymm, one-dvd, dvd-mul-left, mul-dvd-mul-left, dvd-of-mul-dvd-mul-left, mul-div-cancel', mul-one, eq-of-mul-eq-mul-left}
 use native.Mathlib.Decide.{decLe}
 use native.Mathlib.Omega.{arith}
-use borrow.Author.Tests.{eq-eqb, ne-eqb}
+use lib.Dec.{eqb}
+use borrow.Author.Tests.{eq-eqb, ne-eqb, eqb-true}
+use Rattle.euclid.specs.Divisor.{IsGcd}
 use Rattle.euclid.specs.Answer.{gcd}
-use Rattle.euclid.proofs.Divisor.{gcd-is, gcd-swap, gcd-pos-right, coprime-divides}
+use Rattle.euclid.proofs.Divisor.{gcd-is, gcd-only, gcd-swap, gcd-pos-right, coprime-divides}
 use Rattle.fraction.specs.declared.Fraction.{Fraction}
 use Rattle.fraction.specs.Value.{SameValue, LowestTerms}
-use Rattle.fraction.specs.Answer.{lowest}
+use Rattle.fraction.specs.Answer.{lowest, isLowest}
 
 -- ---- Core laws
 
@@ -98,6 +102,32 @@ same-trans f h k p a b =
 
 pub lowest-only : (f h : Fraction) → 0 < f .denominator → SameValue f h → LowestTerms h → h ≡ lowest f
 lowest-only f h p e l = lowest-one h (lowest f) l (lowest-terms f p) (same-trans f h (lowest f) p e (lowest-same f))
+
+-- ---- The test for lowest terms
+
+pub is-lowest-none : (f : Fraction) → f .denominator ≡ 0 → false ≡ isLowest f
+unfolding isLowest
+is-lowest-none f h = simp (eq-eqb (f .denominator) 0 h)
+
+pub is-lowest-some : (f : Fraction) (g : ℕ) → (f .denominator ≡ 0 → ⊥) → g ≡ gcd (f .numerator) (f .denominator) → eqb g 1 ≡ isLowest f
+unfolding isLowest
+is-lowest-some f g h e = rw e (simp (ne-eqb (f .denominator) 0 h))
+
+pub is-lowest : (f : Fraction) → (isLowest f ≡ true) ↔ LowestTerms f
+is-lowest f = go (decLe 1 (f .denominator))
+  where
+    g : ℕ
+    g = gcd (f .numerator) (f .denominator)
+
+    go : Dec (1 ≤ f .denominator) → (isLowest f ≡ true) ↔ LowestTerms f
+    go (no h) = ((λ t. absurd (false≢true (is-lowest-none f (omega arith) ∙ t))), (λ l. absurd (omega (arith, l .positive))))
+    go (yes h) =
+        let is = is-lowest-some f g (λ z. omega arith) refl in (
+          (λ t.
+              let one : g ≡ 1 = eqb-true g 1 (is ∙ t) in
+              record { positive = h; coprime = subst (IsGcd (f .numerator) (f .denominator)) one (gcd-is (f .numerator) (f .denominator)) }),
+          (λ l. sym is ∙ eq-eqb g 1 (sym (gcd-only (f .numerator) (f .denominator) 1 (l .coprime)))),
+        )
 
 -- ---- Derived
 

@@ -14,6 +14,7 @@ promises =
       lowest-only = lowest.lowest-only;
       lowest-zero = lowest.lowest-zero;
       lowest-twice = lowest.lowest-twice;
+      is-lowest = lowest.is-lowest;
       multiple-is = multiple.multiple-is;
       multiple-only = multiple.multiple-only;
       running-is = multiple.running-is;

@@ -1,5 +1,6 @@
 -- The functions that the contracts cite. Promises says what they have to do with the words of Value.
 --     lowest f                    f in lowest terms
+--     isLowest f                  whether f is in lowest terms
 --     above f h                   whether f is above h
 --     wholeTicks time tick        the time in ticks, where it is a whole number of them
 --     limit                       the largest multiple of denominators that a table takes
@@ -9,7 +10,7 @@
 --     runningFrom multiple ds     the multiple of the denominators so far and those of a list, one after the other
 --     running ds                  the same from none so far: L against the limit
 use Prim.Native.Nat.{ℕ, _*_, _/_, _%_}
-use mathlib.Core.Bool.{Bool, cond}
+use mathlib.Core.Bool.{Bool, false, cond}
 use mathlib.Core.List.{List, [], _∷_}
 use lib.Dec.{leb, ltb, eqb}
 use Rattle.euclid.specs.Answer.{gcd, lcm}
@@ -27,6 +28,10 @@ lowest f =
       numerator = f .numerator / gcd (f .numerator) (f .denominator);
       denominator = f .denominator / gcd (f .numerator) (f .denominator);
     })
+
+-- There is a denominator, and nothing but 1 is common to the two numbers.
+unfoldable pub isLowest : Fraction → Bool
+isLowest f = cond (eqb (f .denominator) 0) false (eqb (gcd (f .numerator) (f .denominator)) 1)
 
 -- The order of fractions, by cross products.
 abbrev pub above : Fraction → Fraction → Bool

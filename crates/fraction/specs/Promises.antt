@@ -7,7 +7,7 @@ use mathlib.Core.List.{List}
 use Rattle.fraction.specs.declared.Fraction.{Fraction}
 use Rattle.fraction.specs.declared.Ticks.the-variants.{Whole}
 use Rattle.fraction.specs.Value.{SameValue, LowestTerms, IsTicks, IsCommonMultiple}
-use Rattle.fraction.specs.Answer.{lowest, above, wholeTicks, limited, commonMultiple, running}
+use Rattle.fraction.specs.Answer.{lowest, isLowest, above, wholeTicks, limited, commonMultiple, running}
 
 pub record Promises : Type 0 where
   -- F1. Lowest terms are the same number, are lowest, and are the only such fraction; 0/m is 0/1; twice is once.
@@ -16,6 +16,8 @@ pub record Promises : Type 0 where
   pub lowest-only : (f h : Fraction) → 0 < f .denominator → SameValue f h → LowestTerms h → h ≡ lowest f
   pub lowest-zero : (m : ℕ) → 0 < m → lowest (record { numerator = 0; denominator = m }) ≡ record { numerator = 0; denominator = 1 }
   pub lowest-twice : (f : Fraction) → lowest (lowest f) ≡ lowest f
+  -- The test for lowest terms finds just those.
+  pub is-lowest : (f : Fraction) → (isLowest f ≡ true) ↔ LowestTerms f
   -- F2. L is the least common multiple of the denominators, and taking them one after the other finds it, or that it is above the limit,
   -- where no denominator is 0, which is to say that L is not.
   pub multiple-is : (ds : List ℕ) → IsCommonMultiple ds (commonMultiple ds)

@@ -1,7 +1,7 @@
 // Fractions n/m of 32 bits: lowest terms, the order by cross products, the running least common multiple of
 // denominators, and the whole ticks of a time. No quotient stands in for a fraction; no call has a `requires`.
 ghost use mathlib.Core.Path.{_≡_};
-ghost use Rattle.fraction.specs.Answer.{lowest, above, limited, included, wholeTicks};
+ghost use Rattle.fraction.specs.Answer.{lowest, isLowest, above, limited, included, wholeTicks};
 ghost use Rattle.euclid.specs.Answer.{gcd, lcm};
 ghost use Prim.Native.Nat.{_*_, _/_};
 
@@ -60,6 +60,16 @@ impl Fraction {
             numerator: part(self.numerator, divisor),
             denominator: part(self.denominator, divisor),
         }
+    }
+
+    // Whether this fraction is in lowest terms. One without a denominator is not.
+    pub fn is_lowest(self) -> bool
+        ensures { λ r. ⌜ r ≡ isLowest self ⌝ }
+    {
+        if self.denominator == 0 {
+            return false;
+        }
+        divisor_of(self.numerator, self.denominator) == 1
     }
 
     // Whether this fraction is above the other, by cross products.

@@ -18,8 +18,9 @@ use Rattle.line.specs.declared.Written.{Written}
 use Rattle.line.specs.declared.Written.the-variants.{Length, Refused}
 use Rattle.line.specs.Text.{Within}
 use Rattle.line.specs.Answer.{decimal, space, numbers, acceptWord, collideWord, refuseWord, line, lineOf, longest, answerFor, bufferAfter, written, writtenIn}
-use Rattle.line.specs.Writing.{over, Wrote}
-use Rattle.line.proofs.Over.{over-front}
+use Rattle.lent.specs.Lent.{over}
+use Rattle.line.specs.Writing.{Wrote}
+use Rattle.lent.proofs.Over.{over-front}
 use Rattle.line.proofs.Notation.{decimal-u64, decimal-u32}
 use Rattle.line.proofs.Stores.{over-then}
 

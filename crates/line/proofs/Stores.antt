@@ -9,8 +9,8 @@ use native.Mathlib.Omega.{arith}
 use lib.ListN.{length, take, getD, set, length-append}
 use lib.Seq.{take-suc, take-length, length-take-le}
 use Rattle.line.specs.Answer.{digit, decimal, space, newline, numbers}
-use Rattle.line.specs.Writing.{over}
-use Rattle.line.proofs.Over.{over-one, over-over, length-over}
+use Rattle.lent.specs.Lent.{over}
+use Rattle.lent.proofs.Over.{over-one, over-over, length-over}
 use Rattle.line.proofs.Notation.{decimal-one, decimal-more, length-one, length-more}
 
 -- a number of one digit

@@ -21,7 +21,7 @@ use Rattle.fraction.proofs.Order.{above-same}
 use Rattle.table.specs.declared.Entry.{Entry}
 use Rattle.table.specs.declared.Outcome.{Outcome}
 use Rattle.table.specs.declared.Reading.{Reading}
-use Rattle.table.specs.Row.{numbers, longestRow, noEntry, entries, denominators, tick, trainOf, SameTime, SameEntry, SameRow}
+use Rattle.table.specs.Row.{numbers, longestRow, noEntry, entries, lowestEntry, denominators, tick, trainOf, SameTime, SameEntry, SameRow}
 use Rattle.table.specs.Answer.{test, orElse, firstRefusal, noDenominator, noTime, entryCheck, checked, isAbove, multipleCheck, multipleChecked, tooLong, ticksCheck, ticksChecked, refusal, filled, tableOf, readAfter, reading}
 use Rattle.table.proofs.Entries.{entries-length}
 use Rattle.table.proofs.Checks.{false-not-true, threeTests}
@@ -40,10 +40,6 @@ same-lowest : (f h : Fraction) → SameTime f h → lowest f ≡ lowest h
 same-lowest f h (inl e) = ap lowest e
 same-lowest f h (inr (pf, ph, e)) =
     sym (lowest-only f (lowest h) pf (same-trans h f (lowest h) ph (sym e) (lowest-same h)) (lowest-terms h ph))
-
--- A train with its times in lowest terms.
-abbrev lowestEntry : Entry → Entry
-lowestEntry e = record { phase = lowest (e .phase); period = lowest (e .period); duration = lowest (e .duration) }
 
 -- ---- Core laws: each check of a train, its denominators and its ticks
 

@@ -8,6 +8,10 @@
 --     entriesOf n row         the first n trains of a row as fractions
 --     entries row             all its trains as fractions, in their order
 --     noEntry                 what stands for an entry where there is none
+--     numbersOf e             the six numbers of a train
+--     rowOf es                the row of some trains
+--     lowestEntry e           a train with its times in lowest terms
+--     lowestRow row           the trains of a row in lowest terms, as a row
 --     denominatorsOf e        the denominators of one train after reduction
 --     denominators es         those of all trains
 --     multiple es             the paper's L
@@ -23,7 +27,7 @@
 use Prim.Native.Nat.{ℕ, zero, suc, _+_, _*_, _/_, _<_}
 use mathlib.Core.Path.{_≡_}
 use mathlib.Core.Logic.{_⊎_}
-use mathlib.Core.List.{List, [], _∷_, _++_, map}
+use mathlib.Core.List.{List, [], _∷_, _++_, map, flatMap}
 use lib.ListN.{length, getD, drop}
 use Rattle.fraction.specs.declared.Fraction.{Fraction}
 use Rattle.fraction.specs.declared.Ticks.{Ticks}
@@ -69,6 +73,24 @@ entries row = entriesOf (length row / numbers) row
 -- Where there is no entry: three times without a denominator.
 abbrev pub noEntry : Entry
 noEntry = record { phase = timeAt [] 0; period = timeAt [] 0; duration = timeAt [] 0 }
+
+-- The six numbers of a train, as they stand in a row.
+abbrev pub numbersOf : Entry → List ℕ
+numbersOf e =
+    e .phase .numerator ∷ e .phase .denominator ∷ e .period .numerator ∷ e .period .denominator ∷ e .duration .numerator
+    ∷ e .duration .denominator ∷ []
+
+-- Some trains as a row.
+abbrev pub rowOf : List Entry → List ℕ
+rowOf es = flatMap numbersOf es
+
+-- A train with its times in lowest terms.
+abbrev pub lowestEntry : Entry → Entry
+lowestEntry e = record { phase = lowest (e .phase); period = lowest (e .period); duration = lowest (e .duration) }
+
+-- A row with its fractions in lowest terms.
+abbrev pub lowestRow : List ℕ → List ℕ
+lowestRow row = rowOf (map lowestEntry (entries row))
 
 -- The denominators of one train after reduction.
 abbrev pub denominatorsOf : Entry → List ℕ

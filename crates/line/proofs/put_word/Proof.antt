@@ -5,8 +5,8 @@ use mathlib.Core.Path.{_≡_, refl, sym}
 use native.Mathlib.Omega.{arith}
 use borrow.Author.Needs.{needs}
 use lib.ListN.{length, take}
-use Rattle.line.specs.Writing.{over}
-use Rattle.line.proofs.Over.{over-none}
+use Rattle.lent.specs.Lent.{over}
+use Rattle.lent.proofs.Over.{over-none}
 use Rattle.line.proofs.Stores.{word-on, word-ends}
 use Rattle.line.proofs.put_word.Statement.{statement}
 use Rattle.line.proofs.put_word.Tie as tie
