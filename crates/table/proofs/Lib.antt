@@ -7,6 +7,7 @@ pub mod Ticking
 pub mod Order
 pub mod Exactly
 pub mod TrainCheck
+pub mod Following
 pub mod Conditions
 pub mod Limits
 pub mod Readings

@@ -60,7 +60,7 @@ then-exact b r P is p D exact stand =
 
 -- ---- Core laws
 
-eqb-is : (a b : ℕ) → (eqb a b ≡ true) ↔ (a ≡ b)
+pub eqb-is : (a b : ℕ) → (eqb a b ≡ true) ↔ (a ≡ b)
 eqb-is a b = (eqb-true a b, eq-eqb a b)
 
 pub ltb-is : (a b : ℕ) → (ltb a b ≡ true) ↔ (a < b)
@@ -79,13 +79,13 @@ or-is true c p q = ((λ t. inl (p .0 refl)), (λ w. refl))
 or-is false c p q = ((λ t. inr (q .0 t)), ⊎-elim (λ w. absurd (false-not-true (p .1 w))) (q .1))
 
 -- the tests decide the conditions of 2 and 3
-no-denominator-is : (e : Entry) → (noDenominator e ≡ true) ↔ NoDenominator e
+pub no-denominator-is : (e : Entry) → (noDenominator e ≡ true) ↔ NoDenominator e
 unfolding noDenominator
 no-denominator-is e =
     or-is _ _ (eqb-is (e .phase .denominator) 0)
     (or-is _ _ (eqb-is (e .period .denominator) 0) (eqb-is (e .duration .denominator) 0))
 
-no-time-is : (e : Entry) → (noTime e ≡ true) ↔ NoTime e
+pub no-time-is : (e : Entry) → (noTime e ≡ true) ↔ NoTime e
 unfolding noTime
 no-time-is e = or-is _ _ (eqb-is (e .period .numerator) 0) (eqb-is (e .duration .numerator) 0)
 

@@ -3,6 +3,8 @@
 --     NoTime e                period or duration is 0
 --     TooManyTicks tick time  a time is more than 10,000,000 ticks
 --     TooLong tick e          a train has such a time
+--     trainChecks i e         refusals 2, 3 and 4 of the train at position i
+--     checkedOrder row        refusals 1 to 4 of a row, in their order
 --     TrainWith es i P        the train at position i has a property
 --     Condition row r         the paper's condition for refusal r holds of the row
 --     stage r                 1; then train by train 2, 3, 4; then 5 over the table; then 6
@@ -12,11 +14,12 @@ use Prim.Native.Nat.{ℕ, suc, _<_, _∣_}
 use mathlib.Core.Path.{_≡_}
 use mathlib.Core.Bool.{true}
 use mathlib.Core.Logic.{_⊎_}
-use mathlib.Core.List.{List}
+use mathlib.Core.List.{List, [], _∷_}
 use lib.ListN.{length, getD, take}
 use Rattle.refusal.specs.declared.Refusal.{Refusal}
 use Rattle.refusal.specs.declared.Refusal.the-variants.{TrainCount, ZeroDenominator, ZeroTime, DurationAbovePeriod, TickTooFine, TimeTooLong, BufferTooShort, WrongMark, WrongVersion, WrongLength, NotLowestTerms, NotATrain, NoEmptyPlace, Collision, NoTrainThere, WrongCount}
 use Rattle.refusal.specs.Paper.{paper}
+use Rattle.refusal.specs.Order.{Check, _when_, inTurn}
 use Rattle.fraction.specs.declared.Fraction.{Fraction}
 use Rattle.fraction.specs.Value.{IsTicks}
 use Rattle.fraction.specs.Answer.{above, limit}
@@ -39,6 +42,20 @@ TooManyTicks tick time = (k : ℕ) × IsTicks time tick k × (maxTicks < k)
 -- A train with such a time.
 abbrev pub TooLong : Fraction → Entry → Type 0
 TooLong tick e = TooManyTicks tick (e .phase) ⊎ TooManyTicks tick (e .period) ⊎ TooManyTicks tick (e .duration)
+
+-- Train by train 2, 3, 4.
+abbrev pub trainChecks : ℕ → Entry → List Check
+trainChecks i e =
+    (ZeroDenominator i when NoDenominator e)
+    ∷ (ZeroTime i when NoTime e)
+    ∷ (DurationAbovePeriod i when (above (e .duration) (e .period) ≡ true))
+    ∷ []
+
+-- 1; then train by train 2, 3, 4.
+abbrev pub checkedOrder : List ℕ → List Check
+checkedOrder row =
+    (TrainCount when ((numbers ∣ length row → ⊥) ⊎ (longestRow < length row)))
+    ∷ inTurn trainChecks 0 (entries row)
 
 -- There is a train at position i, and it has the property.
 abbrev pub TrainWith : List Entry → ℕ → (Entry → Type 0) → Type 0
