@@ -1,0 +1,62 @@
+use borrow.Author.Needs.{needs}
+use Rattle.stored.proofs.put32.Statement.{statement}
+use Rattle.stored.proofs.put32.Tie as tie
+use Rattle.stored.proofs.put32.Reads as reads
+use Rattle.stored.proofs.put32.Lts as lts
+
+cast-out : tie.Need-cast-out
+cast-out c = search needs
+
+slice-write-out : tie.Need-slice-write-out
+slice-write-out c = search needs
+
+cast-out-2 : tie.Need-cast-out-2
+cast-out-2 c = search needs
+
+add-out : tie.Need-add-out
+add-out c = search needs
+
+slice-write-out-2 : tie.Need-slice-write-out-2
+slice-write-out-2 c = ?
+
+cast-out-3 : tie.Need-cast-out-3
+cast-out-3 c = search needs
+
+add-out-2 : tie.Need-add-out-2
+add-out-2 c = search needs
+
+slice-write-out-3 : tie.Need-slice-write-out-3
+slice-write-out-3 c = ?
+
+cast-out-4 : tie.Need-cast-out-4
+cast-out-4 c = search needs
+
+add-out-3 : tie.Need-add-out-3
+add-out-3 c = search needs
+
+slice-write-out-4 : tie.Need-slice-write-out-4
+slice-write-out-4 c = ?
+
+same-length : tie.Need-same-length
+same-length c = search needs
+
+returns : tie.Need-returns
+returns c = ?
+
+pub put32-spec : {M : Type 1} → statement M
+put32-spec =
+    tie.close
+    (tie.spec
+    cast-out
+    slice-write-out
+    cast-out-2
+    add-out
+    slice-write-out-2
+    cast-out-3
+    add-out-2
+    slice-write-out-3
+    cast-out-4
+    add-out-3
+    slice-write-out-4
+    same-length
+    returns)

@@ -1,0 +1,39 @@
+use borrow.Author.Needs.{needs}
+use Rattle.stored.proofs.put_record.Statement.{statement}
+use Rattle.stored.proofs.put_record.Tie as tie
+use Rattle.stored.proofs.put_record.Reads as reads
+use Rattle.stored.proofs.put_record.Lts as lts
+use Rattle.stored.proofs.put_time.Reads as put-time-reads
+
+put-time-requires : tie.Need-put-time-requires
+put-time-requires c κs = search needs
+
+add-put-time : tie.Need-add-put-time
+add-put-time c = search needs
+
+put-time-requires-2 : tie.Need-put-time-requires-2
+put-time-requires-2 c κs = search needs
+
+add-put-time-2 : tie.Need-add-put-time-2
+add-put-time-2 c = search needs
+
+put-time-requires-3 : tie.Need-put-time-requires-3
+put-time-requires-3 c κs = search needs
+
+same-length : tie.Need-same-length
+same-length c = search needs
+
+returns : tie.Need-returns
+returns c = ?
+
+pub put-record-spec : {M : Type 1} → statement M
+put-record-spec =
+    tie.close
+    (tie.spec
+    put-time-requires
+    add-put-time
+    put-time-requires-2
+    add-put-time-2
+    put-time-requires-3
+    same-length
+    returns)

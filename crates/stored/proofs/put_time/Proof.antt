@@ -1,0 +1,30 @@
+use borrow.Author.Needs.{needs}
+use Rattle.stored.proofs.put_time.Statement.{statement}
+use Rattle.stored.proofs.put_time.Tie as tie
+use Rattle.stored.proofs.put_time.Reads as reads
+use Rattle.stored.proofs.put_time.Lts as lts
+use Rattle.fraction.proofs.Fraction.lowest.Reads as lowest-reads
+use Rattle.stored.proofs.put32.Reads as put32-reads
+
+lowest-requires : tie.Need-lowest-requires
+lowest-requires c κs = search needs
+
+put32-requires : tie.Need-put32-requires
+put32-requires c κs = search needs
+
+add-put32 : tie.Need-add-put32
+add-put32 c = search needs
+
+put32-requires-2 : tie.Need-put32-requires-2
+put32-requires-2 c κs = search needs
+
+same-length : tie.Need-same-length
+same-length c = search needs
+
+returns : tie.Need-returns
+returns c = ?
+
+pub put-time-spec : {M : Type 1} → statement M
+put-time-spec =
+    tie.close
+    (tie.spec lowest-requires put32-requires add-put32 put32-requires-2 same-length returns)
