@@ -34,6 +34,12 @@ over-over d p q at k h e =
     ∙ ap (λ (l : List ℕ). a ++ q ++ l) dr
     ∙ ap (λ (l : List ℕ). l ++ drop (at + length (p ++ q)) d) (append-assoc (take at d) p q)
 
+-- a second write where the first ended, in a list that is known by the first
+pub over-then :
+    (l m p q : List ℕ) (at k : ℕ) → at ≤ length l → at + length p ≡ k → m ≡ over l at p →
+    over m k q ≡ over l at (p ++ q)
+over-then l m p q at k h e w = ap (λ (d : List ℕ). over d k q) w ∙ over-over l p q at k h e
+
 pub over-none : (d : List ℕ) (at : ℕ) → over d at [] ≡ d
 unfolding over
 over-none d at = simp (append-nil, add-zero, take-append-drop)

@@ -9,7 +9,7 @@ use native.Mathlib.Omega.{arith}
 use lib.ListN.{length, take, getD, length-append}
 use lib.Seq.{take-suc, take-length, length-take-le}
 use Rattle.lent.specs.Lent.{over}
-use Rattle.lent.proofs.Over.{over-over, over-none}
+use Rattle.lent.proofs.Over.{over-then, over-none}
 
 module _ {A : Type 0} (record-of : A → List ℕ) (width : ℕ) (same : (e : A) → length (record-of e) ≡ width) where
   -- records of one width are so many times as long as one
@@ -46,18 +46,17 @@ module _ {A : Type 0} (record-of : A → List ℕ) (width : ℕ) (same : (e : A)
   writing-begins es at before = record { so-far = omega arith; wrote = sym (over-none before at) }
 
   pub writing-on :
-      (es : List A) (at : ℕ) (before now next : List ℕ) (i : ℕ) (none : A) → i < length es → at ≤ length before →
-      Writing es at before now i → next ≡ over now (at + i * width) (record-of (getD es i none)) →
-      Writing es at before next (i + 1)
-  writing-on es at before now next i none h room w e =
+      (es : List A) (at : ℕ) (before now next : List ℕ) (i k : ℕ) (e none : A) → i < length es → at ≤ length before → k ≡ at + i * width →
+      e ≡ getD es i none → Writing es at before now i → next ≡ over now k (record-of e) → Writing es at before next (i + 1)
+  writing-on es at before now next i k e none h room k-is e-is w over-is =
       let l : length (flatMap record-of (take i es)) ≡ i * width =
       flat-length (take i es) ∙ ap (λ (n : ℕ). n * width) (length-take-le i es (w .so-far)) in
       record {
         so-far = omega arith;
         wrote =
-            e
-            ∙ ap (λ (d : List ℕ). over d (at + i * width) (record-of (getD es i none))) (w .wrote)
-            ∙ over-over before (flatMap record-of (take i es)) (record-of (getD es i none)) at (at + i * width) room (ap (λ (n : ℕ). at + n) l)
+            over-is
+            ∙ over-then before now (flatMap record-of (take i es)) (record-of e) at k room (omega arith) (w .wrote)
+            ∙ ap (λ (x : A). over before at (flatMap record-of (take i es) ++ record-of x)) e-is
             ∙ ap (over before at) (sym (flat-more es i none h));
       }
 

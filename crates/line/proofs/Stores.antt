@@ -10,7 +10,7 @@ use lib.ListN.{length, take, getD, set, length-append}
 use lib.Seq.{take-suc, take-length, length-take-le}
 use Rattle.line.specs.Answer.{digit, decimal, space, newline, numbers}
 use Rattle.lent.specs.Lent.{over}
-use Rattle.lent.proofs.Over.{over-one, over-over, length-over}
+use Rattle.lent.proofs.Over.{over-one, over-over, over-then, length-over}
 use Rattle.line.proofs.Notation.{decimal-one, decimal-more, length-one, length-more}
 
 -- a number of one digit
@@ -60,12 +60,6 @@ word-ends l m word i h k w =
     w ∙ ap (λ (n : ℕ). over l 0 (take n word)) e ∙ ap (over l 0) (take-length word)
 
 -- ---- Numbers
-
--- a second write where the first ended, in a list that is known by the first
-pub over-then :
-    (l m p q : List ℕ) (at k : ℕ) → at ≤ length l → at + length p ≡ k → m ≡ over l at p →
-    over m k q ≡ over l at (p ++ q)
-over-then l m p q at k h e w = ap (λ (d : List ℕ). over d k q) w ∙ over-over l p q at k h e
 
 -- a space, and the number after it
 pub put-spaced :

@@ -1,7 +1,7 @@
 -- The laws of trains that are written as a row: they are read again as they were, and lowest terms are the same row.
 -- Core: row-length, row-entries. The rest follows from these.
 -- Assumes nothing.
-use Prim.Native.Nat.{ℕ, zero, suc, _*_, _/_, _<_, _∣_}
+use Prim.Native.Nat.{ℕ, zero, suc, _*_, _/_, _<_, _≤_, _∣_}
 use mathlib.Core.Path.{_≡_, refl, sym, ap, subst, _∙_}
 use mathlib.Core.List.{List, [], _∷_, _++_, map, flatMap}
 use native.Mathlib.Nat.{dvd-mul-left, mul-div-cancel'}
@@ -32,9 +32,16 @@ row-entries es = ap (λ (n : ℕ). entriesOf n (rowOf es)) (row-count es) ∙ en
 -- ---- Derived
 
 -- where there is no entry there is none in lowest terms
-lowest-at : (es : List Entry) (i : ℕ) → getD (map lowestEntry es) i noEntry ≡ lowestEntry (getD es i noEntry)
+pub lowest-at : (es : List Entry) (i : ℕ) → getD (map lowestEntry es) i noEntry ≡ lowestEntry (getD es i noEntry)
 unfolding lowest
 lowest-at es i = List·getD-map lowestEntry es i noEntry
+
+-- a position within the count is one of an entry in lowest terms
+pub lowest-in : (row : List ℕ) (i : ℕ) → i < length row / numbers → i < length (map lowestEntry (entries row))
+lowest-in row i h = omega (arith, length-map (entries row) lowestEntry, entries-length row)
+
+pub lowest-out : (row : List ℕ) (i : ℕ) → length row / numbers ≤ i → length (map lowestEntry (entries row)) ≤ i
+lowest-out row i h = omega (arith, length-map (entries row) lowestEntry, entries-length row)
 
 -- a row of whole trains has the same times in lowest terms
 pub lowest-row-same : (row : List ℕ) → numbers ∣ length row → SameRow row (lowestRow row)

@@ -1,19 +1,19 @@
+-- `check_head` meets its contract: 11, 9, 10, 1, 11, one after the other.
+-- Assumes nothing.
+use borrow.Author.Tests.{not-true, not-false}
+use Rattle.stored.proofs.Ways.{head-short, head-mark, head-version, head-count, head-length, head-passes}
 use borrow.Author.Needs.{needs}
 use Rattle.stored.proofs.check_head.Statement.{statement}
 use Rattle.stored.proofs.check_head.Tie as tie
-use Rattle.stored.proofs.check_head.Reads as reads
-use Rattle.stored.proofs.check_head.Lts as lts
-use Rattle.stored.proofs.get16.Reads as get16-reads
-use Rattle.stored.proofs.has_mark.Reads as has-mark-reads
 
 returns : tie.Need-returns
-returns c = ?
+returns c = head-short _ (c .if1 .taken)
 
 has-mark-requires : tie.Need-has-mark-requires
 has-mark-requires c κs = search needs
 
 returns-2 : tie.Need-returns-2
-returns-2 c = ?
+returns-2 c = head-mark _ (c .before .before .if1 .left) _ (c .before .has-mark .ensures) (not-true _ (c .if2 .taken))
 
 get16-requires : tie.Need-get16-requires
 get16-requires c κs = search needs
@@ -22,7 +22,9 @@ cast-if3 : tie.Need-cast-if3
 cast-if3 c = search needs
 
 returns-3 : tie.Need-returns-3
-returns-3 c = ?
+returns-3 c =
+    head-version _ (c .before .before .before .before .if1 .left) _ (c .before .before .before .has-mark .ensures) (not-false _ (c .before .before .if2 .left))
+    _ (c .before .get16 .ensures .0) (c .if3 .taken)
 
 get16-requires-2 : tie.Need-get16-requires-2
 get16-requires-2 c κs = search needs
@@ -31,7 +33,9 @@ cast-count : tie.Need-cast-count
 cast-count c = search needs
 
 returns-4 : tie.Need-returns-4
-returns-4 c = ?
+returns-4 c =
+    head-count _ (c .before .before .before .before .before .before .if1 .left) _ (c .before .before .before .before .before .has-mark .ensures) (not-false _ (c .before .before .before .before .if2 .left))
+    _ (c .before .before .before .get16 .ensures .0) (c .before .before .if3 .left) _ (c .before .get162 .ensures .0) (c .if4 .taken)
 
 mul-if5 : tie.Need-mul-if5
 mul-if5 c = search needs
@@ -40,10 +44,14 @@ add-if5 : tie.Need-add-if5
 add-if5 c = search needs
 
 returns-5 : tie.Need-returns-5
-returns-5 c = ?
+returns-5 c =
+    head-length _ (c .before .before .before .before .before .before .before .if1 .left) _ (c .before .before .before .before .before .before .has-mark .ensures) (not-false _ (c .before .before .before .before .before .if2 .left))
+    _ (c .before .before .before .before .get16 .ensures .0) (c .before .before .before .if3 .left) _ (c .before .before .get162 .ensures .0) (c .before .if4 .left) (c .if5 .taken)
 
 returns-6 : tie.Need-returns-6
-returns-6 c = ?
+returns-6 c =
+    head-passes _ (c .before .before .before .before .before .before .before .if1 .left) _ (c .before .before .before .before .before .before .has-mark .ensures) (not-false _ (c .before .before .before .before .before .if2 .left))
+    _ (c .before .before .before .before .get16 .ensures .0) (c .before .before .before .if3 .left) _ (c .before .before .get162 .ensures .0) (c .before .if4 .left) (c .if5 .left)
 
 pub check-head-spec : {M : Type 1} → statement M
 check-head-spec =

@@ -1,10 +1,10 @@
+-- `check_record` meets its contract: the three times, one after the other, and then 3 and 4.
+-- Assumes nothing.
+use mathlib.Core.Path.{_∙_}
+use Rattle.stored.proofs.Ways.{record-phase, record-period, record-duration, record-rest}
 use borrow.Author.Needs.{needs}
 use Rattle.stored.proofs.check_record.Statement.{statement}
 use Rattle.stored.proofs.check_record.Tie as tie
-use Rattle.stored.proofs.check_record.Reads as reads
-use Rattle.stored.proofs.check_record.Lts as lts
-use Rattle.stored.proofs.check_time.Reads as check-time-reads
-use Rattle.table.proofs.Entry.check.Reads as check-reads
 
 check-time-requires : tie.Need-check-time-requires
 check-time-requires c κs = search needs
@@ -13,7 +13,7 @@ enum-told : tie.Need-enum-told
 enum-told c = search needs
 
 returns : tie.Need-returns
-returns c = ?
+returns c = record-phase _ _ _ (c .before .before .check-time .ensures) _ (c .enum-told .given .1)
 
 enum-told-2 : tie.Need-enum-told-2
 enum-told-2 c = search needs
@@ -25,7 +25,9 @@ enum-told-3 : tie.Need-enum-told-3
 enum-told-3 c = search needs
 
 returns-2 : tie.Need-returns-2
-returns-2 c = ?
+returns-2 c =
+    record-period _ _ _ (c .before .before .before .before .before .check-time .ensures) (c .before .before .before .enum-told2 .given .1)
+    _ (c .before .before .check-time2 .ensures) _ (c .enum-told3 .given .1)
 
 enum-told-4 : tie.Need-enum-told-4
 enum-told-4 c = search needs
@@ -37,7 +39,10 @@ enum-told-5 : tie.Need-enum-told-5
 enum-told-5 c = search needs
 
 returns-3 : tie.Need-returns-3
-returns-3 c = ?
+returns-3 c =
+    record-duration _ _ _ (c .before .before .before .before .before .before .before .before .check-time .ensures) (c .before .before .before .before .before .before .enum-told2 .given .1)
+    _ (c .before .before .before .before .before .check-time2 .ensures) (c .before .before .before .enum-told4 .given .1)
+    _ (c .before .before .check-time3 .ensures) _ (c .enum-told5 .given .1)
 
 enum-told-6 : tie.Need-enum-told-6
 enum-told-6 c = search needs
@@ -46,7 +51,11 @@ check-requires : tie.Need-check-requires
 check-requires c κs = search needs
 
 returns-4 : tie.Need-returns-4
-returns-4 c = ?
+returns-4 c =
+    c .check .ensures
+    ∙ record-rest _ _ _ (c .before .before .before .before .before .before .before .before .before .check-time .ensures) (c .before .before .before .before .before .before .before .enum-told2 .given .1)
+    _ (c .before .before .before .before .before .before .check-time2 .ensures) (c .before .before .before .before .enum-told4 .given .1)
+    _ (c .before .before .before .check-time3 .ensures) (c .before .enum-told6 .given .1)
 
 pub check-record-spec : {M : Type 1} → statement M
 check-record-spec =

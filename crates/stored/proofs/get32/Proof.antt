@@ -1,9 +1,9 @@
+-- `get32` meets its contract: four bytes, the most significant first.
+-- Assumes nothing.
+use Rattle.stored.specs.Found.{number32}
 use borrow.Author.Needs.{needs}
 use Rattle.stored.proofs.get32.Statement.{statement}
 use Rattle.stored.proofs.get32.Tie as tie
-use Rattle.stored.proofs.get32.Reads as reads
-use Rattle.stored.proofs.get32.Lts as lts
-use Rattle.stored.proofs.wide.Reads as wide-reads
 
 shared-slice-read-wide : tie.Need-shared-slice-read-wide
 shared-slice-read-wide c = search needs
@@ -57,7 +57,8 @@ add-result-3 : tie.Need-add-result-3
 add-result-3 c = search needs
 
 returns : tie.Need-returns
-returns c = ?
+unfolding number32
+returns c = search needs
 
 pub get32-spec : {M : Type 1} → statement M
 get32-spec =

@@ -1,9 +1,8 @@
+-- `get_record` meets its contract: phase, period and duration.
+-- Assumes nothing.
 use borrow.Author.Needs.{needs}
 use Rattle.stored.proofs.get_record.Statement.{statement}
 use Rattle.stored.proofs.get_record.Tie as tie
-use Rattle.stored.proofs.get_record.Reads as reads
-use Rattle.stored.proofs.get_record.Lts as lts
-use Rattle.stored.proofs.get_time.Reads as get-time-reads
 
 get-time-requires : tie.Need-get-time-requires
 get-time-requires c κs = search needs
@@ -21,7 +20,7 @@ get-time-requires-3 : tie.Need-get-time-requires-3
 get-time-requires-3 c κs = search needs
 
 returns : tie.Need-returns
-returns c = ?
+returns c = λ i. record { phase = c .before .before .get-time .ensures i; period = c .before .get-time2 .ensures i; duration = c .get-time3 .ensures i }
 
 pub get-record-spec : {M : Type 1} → statement M
 get-record-spec =

@@ -1,9 +1,8 @@
+-- `get_time` meets its contract: numerator, then denominator.
+-- Assumes nothing.
 use borrow.Author.Needs.{needs}
 use Rattle.stored.proofs.get_time.Statement.{statement}
 use Rattle.stored.proofs.get_time.Tie as tie
-use Rattle.stored.proofs.get_time.Reads as reads
-use Rattle.stored.proofs.get_time.Lts as lts
-use Rattle.stored.proofs.get32.Reads as get32-reads
 
 get32-requires : tie.Need-get32-requires
 get32-requires c κs = search needs
@@ -15,7 +14,7 @@ get32-requires-2 : tie.Need-get32-requires-2
 get32-requires-2 c κs = search needs
 
 returns : tie.Need-returns
-returns c = ?
+returns c = λ i. record { numerator = c .before .get32 .ensures i; denominator = c .get322 .ensures i }
 
 pub get-time-spec : {M : Type 1} → statement M
 get-time-spec = tie.close (tie.spec get32-requires add-get32 get32-requires-2 returns)

@@ -1,8 +1,11 @@
+-- `put16` meets its contract: two stores, one behind the other.
+-- Assumes nothing.
+use native.Mathlib.Omega.{arith}
+use lib.ListN.{length-set}
+use Rattle.stored.proofs.Stores.{two}
 use borrow.Author.Needs.{needs}
 use Rattle.stored.proofs.put16.Statement.{statement}
 use Rattle.stored.proofs.put16.Tie as tie
-use Rattle.stored.proofs.put16.Reads as reads
-use Rattle.stored.proofs.put16.Lts as lts
 
 cast-out : tie.Need-cast-out
 cast-out c = search needs
@@ -17,13 +20,13 @@ add-out : tie.Need-add-out
 add-out c = search needs
 
 slice-write-out-2 : tie.Need-slice-write-out-2
-slice-write-out-2 c = ?
+slice-write-out-2 c = simp length-set (omega arith)
 
 same-length : tie.Need-same-length
 same-length c = search needs
 
 returns : tie.Need-returns
-returns c = ?
+returns c = two _ _ _ _ (c .pre)
 
 pub put16-spec : {M : Type 1} → statement M
 put16-spec =

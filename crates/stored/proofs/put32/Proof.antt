@@ -1,8 +1,11 @@
+-- `put32` meets its contract: four stores, one behind the other.
+-- Assumes nothing.
+use native.Mathlib.Omega.{arith}
+use lib.ListN.{length-set}
+use Rattle.stored.proofs.Stores.{four}
 use borrow.Author.Needs.{needs}
 use Rattle.stored.proofs.put32.Statement.{statement}
 use Rattle.stored.proofs.put32.Tie as tie
-use Rattle.stored.proofs.put32.Reads as reads
-use Rattle.stored.proofs.put32.Lts as lts
 
 cast-out : tie.Need-cast-out
 cast-out c = search needs
@@ -17,7 +20,7 @@ add-out : tie.Need-add-out
 add-out c = search needs
 
 slice-write-out-2 : tie.Need-slice-write-out-2
-slice-write-out-2 c = ?
+slice-write-out-2 c = simp length-set (omega arith)
 
 cast-out-3 : tie.Need-cast-out-3
 cast-out-3 c = search needs
@@ -26,7 +29,7 @@ add-out-2 : tie.Need-add-out-2
 add-out-2 c = search needs
 
 slice-write-out-3 : tie.Need-slice-write-out-3
-slice-write-out-3 c = ?
+slice-write-out-3 c = simp length-set (omega arith)
 
 cast-out-4 : tie.Need-cast-out-4
 cast-out-4 c = search needs
@@ -35,13 +38,13 @@ add-out-3 : tie.Need-add-out-3
 add-out-3 c = search needs
 
 slice-write-out-4 : tie.Need-slice-write-out-4
-slice-write-out-4 c = ?
+slice-write-out-4 c = simp length-set (omega arith)
 
 same-length : tie.Need-same-length
 same-length c = search needs
 
 returns : tie.Need-returns
-returns c = ?
+returns c = four _ _ _ _ _ _ (c .pre)
 
 pub put32-spec : {M : Type 1} → statement M
 put32-spec =

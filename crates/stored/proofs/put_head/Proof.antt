@@ -1,9 +1,11 @@
+-- `put_head` meets its contract: mark, version and count, one behind the other.
+-- Assumes nothing.
+use native.Mathlib.Omega.{arith}
+use lib.ListN.{length-set}
+use Rattle.stored.proofs.Stores.{put-all}
 use borrow.Author.Needs.{needs}
 use Rattle.stored.proofs.put_head.Statement.{statement}
 use Rattle.stored.proofs.put_head.Tie as tie
-use Rattle.stored.proofs.put_head.Reads as reads
-use Rattle.stored.proofs.put_head.Lts as lts
-use Rattle.stored.proofs.put16.Reads as put16-reads
 
 array-read-out : tie.Need-array-read-out
 array-read-out c = search needs
@@ -15,25 +17,25 @@ array-read-out-2 : tie.Need-array-read-out-2
 array-read-out-2 c = search needs
 
 slice-write-out-2 : tie.Need-slice-write-out-2
-slice-write-out-2 c = ?
+slice-write-out-2 c = simp length-set (omega arith)
 
 array-read-out-3 : tie.Need-array-read-out-3
 array-read-out-3 c = search needs
 
 slice-write-out-3 : tie.Need-slice-write-out-3
-slice-write-out-3 c = ?
+slice-write-out-3 c = simp length-set (omega arith)
 
 put16-requires : tie.Need-put16-requires
-put16-requires c κs = ?
+put16-requires c κs = simp length-set (omega arith)
 
 put16-requires-2 : tie.Need-put16-requires-2
-put16-requires-2 c κs = ?
+put16-requires-2 c κs = omega (arith, simp length-set at (c .before .before .before .put16 .kept .0))
 
 same-length : tie.Need-same-length
-same-length c = ?
+same-length c = omega (arith, c .before .before .put162 .kept .0, simp length-set at (c .before .before .before .before .before .before .put16 .kept .0))
 
 returns : tie.Need-returns
-returns c = ?
+returns c = put-all _ _ _ _ (omega arith) (c .before .before .before .before .before .before .put16 .ensures) (c .before .before .put162 .ensures)
 
 pub put-head-spec : {M : Type 1} → statement M
 put-head-spec =

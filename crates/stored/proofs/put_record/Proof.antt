@@ -1,9 +1,9 @@
+-- `put_record` meets its contract: three times, one behind the other.
+-- Assumes nothing.
+use Rattle.stored.proofs.Stores.{put-three}
 use borrow.Author.Needs.{needs}
 use Rattle.stored.proofs.put_record.Statement.{statement}
 use Rattle.stored.proofs.put_record.Tie as tie
-use Rattle.stored.proofs.put_record.Reads as reads
-use Rattle.stored.proofs.put_record.Lts as lts
-use Rattle.stored.proofs.put_time.Reads as put-time-reads
 
 put-time-requires : tie.Need-put-time-requires
 put-time-requires c κs = search needs
@@ -24,7 +24,9 @@ same-length : tie.Need-same-length
 same-length c = search needs
 
 returns : tie.Need-returns
-returns c = ?
+returns c =
+    put-three _ _ _ _ _ _ (c .before .before .before .before .before .before .before .before .before .before .before .before .before .pre)
+    (c .before .before .before .before .before .before .before .before .before .before .put-time .ensures) (c .before .before .before .before .before .before .put-time2 .ensures) (c .before .before .put-time3 .ensures)
 
 pub put-record-spec : {M : Type 1} → statement M
 put-record-spec =

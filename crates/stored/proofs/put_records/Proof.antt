@@ -1,45 +1,63 @@
+-- `put_records` meets its contract. The loop's invariant: the trains up to this position are written, and nothing else. The
+-- measure is the trains that are left.
+-- Assumes nothing.
+use Prim.Native.Nat.{_-_}
+use mathlib.Core.Path.{_≡_, refl, sym, ap, _∙_}
+use mathlib.Core.List.{map}
+use lib.ListN.{length}
+use native.Mathlib.Omega.{arith}
+use borrow.Author.Needs.{needs}
+use Rattle.lent.proofs.Records.{Writing, writing-begins, writing-on, writing-ends}
+use Rattle.table.specs.Row.{recordLength, entries, noEntry, lowestEntry}
+use Rattle.table.proofs.Entries.{entries-length}
+use Rattle.table.proofs.Rows.{lowest-in, lowest-out, lowest-at}
+use Rattle.stored.specs.Layout.{headLength, recordOf}
 use Rattle.stored.proofs.put_records.Statement.{statement}
 use Rattle.stored.proofs.put_records.Tie as tie
-use Rattle.stored.proofs.put_records.Reads as reads
-use Rattle.stored.proofs.put_records.Lts as lts
-use Rattle.stored.proofs.put_record.Reads as put-record-reads
-use Rattle.table.proofs.Entry.at.Reads as at-reads
 
 abbrev Inv-loop : tie.InvT-loop
-Inv-loop row out₀ count position₀ out position = ?
+Inv-loop row out₀ count position₀ out position =
+    Writing recordOf recordLength (λ e. refl) (map lowestEntry (entries row)) headLength out₀ out position × (length out ≡ length out₀)
 
 abbrev μ-loop : tie.MeasureT-loop
-μ-loop row out₀ count position₀ out position = ?
+μ-loop row out₀ count position₀ out position = count - position
 
 loop-holds : tie.Need-loop-holds Inv-loop μ-loop
-loop-holds c = ?
+loop-holds c = (writing-begins _ _ _ _ _ _, refl)
 
 at-requires : tie.Need-at-requires Inv-loop μ-loop
-at-requires c κs = ?
+at-requires c κs = search needs
 
 mul-put-record : tie.Need-mul-put-record Inv-loop μ-loop
-mul-put-record c = ?
+mul-put-record c = omega arith
 
 add-put-record : tie.Need-add-put-record Inv-loop μ-loop
-add-put-record c = ?
+add-put-record c = omega arith
 
 put-record-requires : tie.Need-put-record-requires Inv-loop μ-loop
-put-record-requires c κs = ?
+put-record-requires c κs = omega (arith, entries-length (c .before .before .before .before .before .before .args .row .now), c .before .before .before .before .before .before .pre)
 
 add-position : tie.Need-add-position Inv-loop μ-loop
-add-position c = ?
+add-position c = search needs
 
 loop-less : tie.Need-loop-less Inv-loop μ-loop
-loop-less c = ?
+loop-less c = omega arith
 
 loop-again : tie.Need-loop-again Inv-loop μ-loop
-loop-again c = ?
+loop-again c =
+    let turn = c .before .before .before .before .before in
+    let inv = turn .before .loop .inv in
+    let given = c .before .before .before .before .before .before .before .before .before .args .row .now in (
+      writing-on _ _ _ _ _ _ _ _ _ _ _ noEntry (lowest-in given _ (turn .loop-test .taken)) (omega arith) refl
+          (ap lowestEntry (c .before .before .before .before .at .ensures) ∙ sym (lowest-at (entries given) (turn .before .loop .position))) (inv .0) (c .before .before .put-record .ensures),
+      omega (arith, inv .1, c .before .before .put-record .kept .0),
+    )
 
 same-length : tie.Need-same-length Inv-loop μ-loop
-same-length c = ?
+same-length c = omega arith
 
 returns : tie.Need-returns Inv-loop μ-loop
-returns c = ?
+returns c = writing-ends _ _ _ _ _ _ _ _ (lowest-out (c .before .before .before .before .args .row .now) _ (c .loop-test .left)) (c .before .loop .inv .0)
 
 pub put-records-spec : {M : Type 1} → statement M
 put-records-spec =

@@ -1,10 +1,9 @@
+-- `put_time` meets its contract: the numerator and the denominator of the lowest terms.
+-- Assumes nothing.
+use Rattle.stored.proofs.Stores.{put-both}
 use borrow.Author.Needs.{needs}
 use Rattle.stored.proofs.put_time.Statement.{statement}
 use Rattle.stored.proofs.put_time.Tie as tie
-use Rattle.stored.proofs.put_time.Reads as reads
-use Rattle.stored.proofs.put_time.Lts as lts
-use Rattle.fraction.proofs.Fraction.lowest.Reads as lowest-reads
-use Rattle.stored.proofs.put32.Reads as put32-reads
 
 lowest-requires : tie.Need-lowest-requires
 lowest-requires c κs = search needs
@@ -22,7 +21,9 @@ same-length : tie.Need-same-length
 same-length c = search needs
 
 returns : tie.Need-returns
-returns c = ?
+returns c =
+    put-both _ _ _ _ _ _ (c .before .before .before .before .before .before .before .before .before .before .pre) (c .before .before .before .before .before .before .before .before .lowest .ensures)
+    (c .before .before .before .before .before .before .put32 .ensures) (c .before .before .put322 .ensures)
 
 pub put-time-spec : {M : Type 1} → statement M
 put-time-spec =

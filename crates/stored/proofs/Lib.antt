@@ -1,0 +1,7 @@
+-- The laws of stored. Promises gathers what specs/Promises.antt states; callers cite the others.
+pub mod Stores
+pub mod Ways
+pub mod Walk
+pub mod Following
+pub mod Saving
+pub mod Loading

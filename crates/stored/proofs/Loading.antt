@@ -1,0 +1,121 @@
+-- The ways through `load`, on plain values: one law for each return, and what is written.
+-- Core: head-passed, load-head, load-trains, load-short, load-answers, load-writes.
+-- Assumes nothing.
+use Prim.Native.Nat.{ℕ, _+_, _*_, _<_, _≤_}
+use mathlib.Core.Path.{_≡_, refl, sym, ap, _∙_}
+use mathlib.Core.Bool.{Bool, true, false}
+use mathlib.Core.List.{List}
+use native.Mathlib.Omega.{arith}
+use lib.Dec.{ltb}
+use lib.ListN.{length, take, drop}
+use borrow.Author.Tests.{lt-ltb, le-ltb, ltb-false, eqb-true, not-false}
+use Rattle.refusal.specs.declared.Refusal.{Refusal}
+use Rattle.refusal.specs.declared.Refusal.the-variants.{BufferTooShort}
+use Rattle.lent.specs.Lent.{over}
+use Rattle.lent.proofs.Over.{over-front}
+use Rattle.table.specs.declared.Entry.{Entry}
+use Rattle.table.specs.declared.Outcome.{Outcome}
+use Rattle.table.specs.declared.Outcome.the-variants.{Passed, Refused}
+use Rattle.table.specs.Row.{capacity, numbers, recordLength, rowOf}
+use Rattle.table.specs.Answer.{test, orElse, firstRefusal}
+use Rattle.table.proofs.Checks.{refused-not-passed}
+use Rattle.table.proofs.Rows.{row-length}
+use Rattle.stored.specs.declared.Loaded.{Loaded}
+use Rattle.stored.specs.declared.Loaded.the-variants as loads
+use Rattle.stored.specs.Layout.{mark, version, headLength, lengthOf}
+use Rattle.stored.specs.Found.{recordsIn, versionIn, countIn, trainsIn}
+use Rattle.stored.specs.Answer.{headCheck, storedCheck, loadCheck, loadedAfter, loaded, loadedIn}
+use Rattle.stored.proofs.Walk.{records-length}
+use Rattle.stored.proofs.Following.{mark-is}
+
+-- ---- What is so of a file whose head passes
+
+pub record Headed (bs : List ℕ) : Type 0 where
+  pub long : headLength ≤ length bs
+  pub marked : take 3 bs ≡ mark
+  pub right : versionIn bs ≡ version
+  pub few : countIn bs ≤ capacity
+  pub whole : length bs ≡ lengthOf (countIn bs)
+
+-- a check that passes passes its first test, and then the rest
+past-test : (b : Bool) (r : Refusal) (p : Outcome) → orElse (test b r) p ≡ Passed → (b ≡ false) × (p ≡ Passed)
+past-test true r p e = absurd (refused-not-passed r e)
+past-test false r p e = (refl, e)
+
+last-test : (b : Bool) (r : Refusal) → test b r ≡ Passed → b ≡ false
+last-test true r e = absurd (refused-not-passed r e)
+last-test false r e = refl
+
+pub head-passed : (bs : List ℕ) → headCheck bs ≡ Passed → Headed bs
+unfolding headCheck
+head-passed bs e =
+    let long = past-test _ _ _ e in
+    let marked = past-test _ _ _ (long .1) in
+    let right = past-test _ _ _ (marked .1) in
+    let few = past-test _ _ _ (right .1) in
+    record {
+      long = ltb-false (length bs) headLength (long .0);
+      marked = mark-is bs .0 (not-false _ (marked .0));
+      right = eqb-true (versionIn bs) version (not-false _ (right .0));
+      few = ltb-false capacity (countIn bs) (few .0);
+      whole = eqb-true (length bs) (lengthOf (countIn bs)) (not-false _ (last-test _ _ (few .1)));
+    }
+
+-- ---- The ways through the call
+
+module _ (bs : List ℕ) (room : ℕ) (head : Outcome) (head-is : head ≡ headCheck bs) where
+  -- what is left when the head has passed
+  afterHead : Outcome
+  afterHead = orElse (firstRefusal storedCheck 0 (trainsIn bs)) (test (ltb room (countIn bs * numbers)) BufferTooShort)
+
+  from-head : loadedAfter (orElse head afterHead) (countIn bs) ≡ loaded bs room
+  unfolding loadCheck afterHead
+  from-head = ap (λ (o : Outcome). loadedAfter (orElse o afterHead) (countIn bs)) head-is
+
+  pub load-head : (r : Refusal) → head ≡ Refused r → loads.Refused r ≡ loaded bs room
+  load-head r h = sym (ap (λ (o : Outcome). loadedAfter (orElse o afterHead) (countIn bs)) h) ∙ from-head
+
+  module _ (on : head ≡ Passed) (count : ℕ) (count-is : count ≡ countIn bs) (trains : Outcome)
+      (trains-are : trains ≡ firstRefusal storedCheck 0 (recordsIn recordLength count (drop headLength bs))) where
+    from-trains :
+        loadedAfter (orElse trains (test (ltb room (count * numbers)) BufferTooShort)) count ≡ loaded bs room
+    unfolding afterHead
+    from-trains =
+        ap (λ (o : Outcome). loadedAfter (orElse o (test (ltb room (count * numbers)) BufferTooShort)) count) trains-are
+        ∙ ap (λ (k : ℕ).
+        loadedAfter
+        (orElse (firstRefusal storedCheck 0 (recordsIn recordLength k (drop headLength bs))) (test (ltb room (k * numbers)) BufferTooShort)) k)
+        count-is
+        ∙ sym (ap (λ (o : Outcome). loadedAfter (orElse o afterHead) (countIn bs)) on)
+        ∙ from-head
+
+    pub load-trains : (r : Refusal) → trains ≡ Refused r → loads.Refused r ≡ loaded bs room
+    load-trains r h = sym (ap (λ (o : Outcome). loadedAfter (orElse o (test (ltb room (count * numbers)) BufferTooShort)) count) h) ∙ from-trains
+
+    module _ (past : trains ≡ Passed) where
+      from-room : loadedAfter (test (ltb room (count * numbers)) BufferTooShort) count ≡ loaded bs room
+      from-room = sym (ap (λ (o : Outcome). loadedAfter (orElse o (test (ltb room (count * numbers)) BufferTooShort)) count) past) ∙ from-trains
+
+      pub load-short : room < count * numbers → loads.Refused BufferTooShort ≡ loaded bs room
+      load-short h = simp (lt-ltb room (count * numbers) h) at from-room
+
+      pub load-answers : count * numbers ≤ room → loads.Count count ≡ loaded bs room
+      load-answers h = simp (le-ltb room (count * numbers) h) at from-room
+
+-- the trains are the whole row, at its front
+pub load-writes :
+    (bs before now : List ℕ) (count : ℕ) → count ≡ countIn bs →
+    now ≡ over before 0 (rowOf (recordsIn recordLength count (drop headLength bs))) →
+    now ≡ loadedIn (loads.Count count) bs before
+unfolding loadedIn
+load-writes bs before now count count-is w =
+    let e : recordsIn recordLength count (drop headLength bs) ≡ trainsIn bs =
+    ap (λ (k : ℕ). recordsIn recordLength k (drop headLength bs)) count-is in
+    w
+    ∙ ap (λ (es : List Entry). over before 0 (rowOf es)) e
+    ∙ over-front before (rowOf (trainsIn bs)) (count * numbers)
+    (row-length (trainsIn bs) ∙ ap (λ (n : ℕ). n * numbers) (records-length recordLength (countIn bs) (drop headLength bs) ∙ sym count-is))
+
+-- what the private functions are given
+pub trains-within : (bs : List ℕ) (count : ℕ) → Headed bs → count ≡ countIn bs → headLength + count * recordLength ≤ length bs
+trains-within bs count found count-is = omega (arith, found .whole)
