@@ -5,3 +5,4 @@ pub mod Walk
 pub mod Following
 pub mod Saving
 pub mod Loading
+pub mod Again
