@@ -13,6 +13,7 @@ use lib.ListN.{length, length-append}
 use lib.Seq.{append-snoc}
 use Rattle.refusal.specs.declared.Refusal.{Refusal}
 use Rattle.refusal.specs.Paper as refusals
+use Rattle.refusal.specs.Order.{First}
 use Rattle.refusal.proofs.Promises as refusals-proved
 use Rattle.train.specs.declared.Train.{Train}
 use Rattle.train.specs.declared.CommonTick.the-variants.{At}
@@ -23,10 +24,11 @@ use Rattle.train.proofs.Least.{earliest-at, earliest-exists}
 use Rattle.table.specs.declared.Outcome.{Outcome}
 use Rattle.table.specs.declared.Outcome.the-variants.{Passed, Refused}
 use Rattle.table.specs.Row.{entries, multiple, trains, SameRow}
-use Rattle.table.specs.Given.{Given}
+use Rattle.table.specs.Given.{order}
 use Rattle.table.specs.Answer.{refusal}
-use Rattle.table.proofs.Readings.{refused-exactly, trains-length, passed-few, passed-limits}
+use Rattle.table.proofs.Readings.{trains-length, passed-few, passed-limits}
 use Rattle.table.proofs.Checks.{refused-not-passed}
+use Rattle.table.proofs.Limits.{refusal-follows}
 use Rattle.table.proofs.Terms.{reading-same}
 use Rattle.judge.specs.declared.Found.{Found}
 use Rattle.judge.specs.declared.Found.the-variants.{Free, Meets}
@@ -134,31 +136,33 @@ module _ (row : List ℕ) where
 
   -- ---- The theorems
 
-  pub refuse-exactly : (r : Refusal) → (paper (verdict row) ≡ refuse (refusals.paper r .number) (refusals.paper r .place)) ↔ Given row r
+  pub refuse-exactly :
+      (r : Refusal) → (paper (verdict row) ≡ refuse (refusals.paper r .number) (refusals.paper r .place)) ↔ First (order row) r
   unfolding kind
-  refuse-exactly r = (there (view row), λ g. ap paper (sym (verdict-refused row r (refused-exactly row r .1 g))))
+  refuse-exactly r = (there (view row), λ g. ap paper (sym (verdict-refused row r (refusal-follows row .refused r .1 g))))
     where
-      there : View row → paper (verdict row) ≡ refuse (refusals.paper r .number) (refusals.paper r .place) → Given row r
+      there : View row → paper (verdict row) ≡ refuse (refusals.paper r .number) (refusals.paper r .place) → First (order row) r
       there (refused s e q) h =
           let k = ap paper (sym q) ∙ h in
           let a : refusals.paper s .number ≡ refusals.paper r .number = cc in
           let b : refusals.paper s .place ≡ refusals.paper r .place = cc in
-          refused-exactly row r .0 (e ∙ ap Refused (refusals-proved.promises .paper-tells s r (λ i. record { number = a i; place = b i })))
+          let same = refusals-proved.promises .paper-tells s r (λ i. record { number = a i; place = b i }) in
+          refusal-follows row .refused r .0 (e ∙ ap Refused same)
       there (accepted d e f q) h = not-shown q h (λ z. omega arith)
       there (meets i j d e f q) h = not-shown q h (λ z. omega arith)
 
   pub refuse-only :
       (number train : ℕ) → paper (verdict row) ≡ refuse number train →
-      (r : Refusal) × Given row r × (refusals.paper r ≡ record { number = number; place = train })
+      (r : Refusal) × First (order row) r × (refusals.paper r ≡ record { number = number; place = train })
   unfolding kind
   refuse-only number train h = go (view row)
     where
-      go : View row → (r : Refusal) × Given row r × (refusals.paper r ≡ record { number = number; place = train })
+      go : View row → (r : Refusal) × First (order row) r × (refusals.paper r ≡ record { number = number; place = train })
       go (refused r e q) =
           let k = ap paper (sym q) ∙ h in
           let a : refusals.paper r .number ≡ number = cc in
           let b : refusals.paper r .place ≡ train = cc in
-          (r, refused-exactly row r .0 e, λ i. record { number = a i; place = b i })
+          (r, refusal-follows row .refused r .0 e, λ i. record { number = a i; place = b i })
       go (accepted d e f q) = not-shown q h (λ z. omega arith)
       go (meets i j d e f q) = not-shown q h (λ z. omega arith)
 

@@ -6,10 +6,11 @@ use mathlib.Core.List.{List, _∷_, _++_}
 use lib.ListN.{length}
 use Rattle.refusal.specs.declared.Refusal.{Refusal}
 use Rattle.refusal.specs.Paper as refusals
+use Rattle.refusal.specs.Order.{First}
 use Rattle.train.specs.Claims.{Claims, Both, Least}
 use Rattle.table.specs.declared.Outcome.the-variants.{Passed}
 use Rattle.table.specs.Row.{entries, multiple, trains, SameRow}
-use Rattle.table.specs.Given.{Given}
+use Rattle.table.specs.Given.{order}
 use Rattle.table.specs.Answer.{refusal}
 use Rattle.judge.specs.Pairs.{trainAt, Schedulable, Places, Before, PairOf, FirstPair, pairs, In, total, SummedTo}
 use Rattle.judge.specs.Paper.{accept, collide, refuse, paper}
@@ -24,10 +25,10 @@ pub record Promises : Type 0 where
   -- R2. A row is refused with a number and a train exactly when the paper says, and with no other number or train.
   pub refuse-exactly :
       (row : List ℕ) (r : Refusal) →
-      (paper (verdict row) ≡ refuse (refusals.paper r .number) (refusals.paper r .place)) ↔ Given row r
+      (paper (verdict row) ≡ refuse (refusals.paper r .number) (refusals.paper r .place)) ↔ First (order row) r
   pub refuse-only :
       (row : List ℕ) (number train : ℕ) → paper (verdict row) ≡ refuse number train →
-      (r : Refusal) × Given row r × (refusals.paper r ≡ record { number = number; place = train })
+      (r : Refusal) × First (order row) r × (refusals.paper r ≡ record { number = number; place = train })
   -- V2. A row that is not refused is accepted exactly when no tick, over unbounded time, is claimed by two trains at different
   -- positions of the table.
   pub accept-exactly :

@@ -1,16 +1,17 @@
--- The tick and the trains of a row that passes refusals 1 to 4; refusals 5 and 6 exactly, and with them all of a table's.
--- Core: multiple-pos, divides-at, ticks-at, multiple-exact, long-exact. The rest follows from these.
+-- The tick and the trains of a row that passes refusals 1 to 4. There 5 and 6 follow the paper's order, and so all six do.
+-- Core: multiple-pos, divides-at, ticks-at, multiple-follows, long-follows. The rest follows from these.
 -- Assumes nothing.
 use Prim.Native.Nat.{ℕ, zero, suc, _<_}
 use mathlib.Core.Path.{_≡_, refl, sym, ap, subst, _∙_}
 use mathlib.Core.Bool.{true}
 use mathlib.Core.Logic.{_↔_}
-use mathlib.Core.List.{List, [], _∷_, _++_}
+use mathlib.Core.List.{List, [], _∷_, _++_, append-assoc}
 use native.Mathlib.Omega.{arith}
 use lib.ListN.{length, getD, take, length-take}
 use lib.Seq.{getD-take}
 use borrow.Author.Tests.{lt-ltb, ltb-true}
 use Rattle.refusal.specs.declared.Refusal.the-variants.{TickTooFine, TimeTooLong}
+use Rattle.refusal.specs.Order.{inTurn}
 use Rattle.fraction.specs.declared.Fraction.{Fraction}
 use Rattle.fraction.specs.declared.Ticks.the-variants.{Whole}
 use Rattle.fraction.specs.declared.Multiple.{Multiple}
@@ -23,12 +24,10 @@ use Rattle.fraction.proofs.WholeTicks.{ticks-exact, ticks-found, ticks-multiple
 use Rattle.train.specs.Claims.{maxTicks}
 use Rattle.table.specs.declared.Entry.{Entry}
 use Rattle.table.specs.Row.{noEntry, entries, denominatorsOf, denominators, multiple, tick}
-use Rattle.table.specs.Given.{TooManyTicks, TooLong, Condition}
-use Rattle.table.specs.Answer.{isAbove, multipleCheck, multipleChecked, tooMany, tooLong, ticksCheck, ticksChecked, refusal}
-use Rattle.table.proofs.Order.{later-stage}
-use Rattle.table.proofs.Exactly.{Exact, test-exact, or-else-exact, exact-same}
-use Rattle.table.proofs.TrainCheck.{or-is}
-use Rattle.table.proofs.Conditions.{each-exact, Some, MultipleCondition, LongCondition, multiple-stands, long-stands, CheckedCondition, LaterCondition, conditions, checked-stage, beyond-stage, checked-exact, Sound, AllSound, checked-sound}
+use Rattle.table.specs.Given.{TooManyTicks, TooLong, checkedOrder, multipleChecks, longChecks, order}
+use Rattle.table.specs.Answer.{checked, isAbove, multipleCheck, multipleChecked, tooMany, tooLong, ticksCheck, ticksChecked, refusal}
+use Rattle.table.proofs.InOrder.{or-is, Follows, follows-then, follows-last, follows-each, follows-each-in}
+use Rattle.table.proofs.Following.{Sound, AllSound, checked-follows, checked-sound}
 
 -- ---- Core laws
 
@@ -62,10 +61,10 @@ divides-at (e ∷ es) m zero all h = divide-front (denominatorsOf e) (denominato
 divides-at (e ∷ es) m (suc k) all h = divides-at es m k (divide-front (denominatorsOf e) (denominators es) m all .1) (omega arith)
 
 -- Every time of a train is a whole number of ticks.
-pub record WholeTimes (tick : Fraction) (e : Entry) : Type 0 where
-  pub phase : (k : ℕ) × (wholeTicks (e .phase) tick ≡ Whole k)
-  pub period : (k : ℕ) × (wholeTicks (e .period) tick ≡ Whole k)
-  pub duration : (k : ℕ) × (wholeTicks (e .duration) tick ≡ Whole k)
+pub record WholeTimes (t : Fraction) (e : Entry) : Type 0 where
+  pub phase : (k : ℕ) × (wholeTicks (e .phase) t ≡ Whole k)
+  pub period : (k : ℕ) × (wholeTicks (e .period) t ≡ Whole k)
+  pub duration : (k : ℕ) × (wholeTicks (e .duration) t ≡ Whole k)
 
 pub ticks-at : (es : List Entry) (k : ℕ) → AllSound es → k < length es → WholeTimes (tick es) (getD es k noEntry)
 ticks-at es k sound h =
@@ -84,53 +83,50 @@ above-is Above = ((λ t. refl), (λ e. refl))
 above-is (Within n) =
     ((λ t. let z : _≡_ {A = ℕ} 0 1 = cc in absurd (omega arith)), (λ e. let z : _≡_ {A = ℕ} 0 1 = cc in absurd (omega arith)))
 
-multiple-exact : (es : List Entry) → AllSound es → Exact (multipleChecked es) (Some es (MultipleCondition es))
-multiple-exact es sound =
-    each-exact 2 (multipleCheck es) (MultipleCondition es) (multiple-stands es) es
-    (λ k h.
-    let pos = multiple-pos (take (suc k) es) (sound-take (suc k) es sound) in
-    let passes = running-above (denominators (take (suc k) es)) pos in
-    let is = above-is (running (denominators (take (suc k) es))) in
-    test-exact _ (TickTooFine k) _ ((λ t. passes .0 (is .0 t)), (λ l. is .1 (passes .1 l))))
+-- the test looks at the running multiple, which is L where no denominator is 0
+multiple-follows : (es : List Entry) → AllSound es → Follows (multipleChecked es) (inTurn (multipleChecks es) 0 es)
+multiple-follows es sound =
+    follows-each (multipleCheck es) (multipleChecks es)
+    (λ i e.
+    let pos = multiple-pos (take (suc i) es) (sound-take (suc i) es sound) in
+    let passes = running-above (denominators (take (suc i) es)) pos in
+    let is = above-is (running (denominators (take (suc i) es))) in
+    follows-last _ (TickTooFine i) _ ((λ b. passes .0 (is .0 b)), (λ l. is .1 (passes .1 l))))
+    0 es
 
 -- ---- Refusal 6
 
 many-is :
-    (time tick : Fraction) → 0 < time .denominator → 0 < tick .numerator → ((k : ℕ) × (wholeTicks time tick ≡ Whole k)) →
-    (tooMany (wholeTicks time tick) ≡ true) ↔ TooManyTicks tick time
-many-is time tick pm pa (k, e) = (
-  (λ t. (k, ticks-exact time tick k e, ltb-true maxTicks k (ap tooMany (sym e) ∙ t))),
-  (λ w. ap tooMany (ticks-found time tick (w .0) pm pa (w .1)) ∙ lt-ltb maxTicks (w .0) (w .2)),
+    (time t : Fraction) → 0 < time .denominator → 0 < t .numerator → ((k : ℕ) × (wholeTicks time t ≡ Whole k)) →
+    (tooMany (wholeTicks time t) ≡ true) ↔ TooManyTicks t time
+many-is time t pm pa (k, e) = (
+  (λ b. (k, ticks-exact time t k e, ltb-true maxTicks k (ap tooMany (sym e) ∙ b))),
+  (λ w. ap tooMany (ticks-found time t (w .0) pm pa (w .1)) ∙ lt-ltb maxTicks (w .0) (w .2)),
 )
 
 long-one :
-    (tick : Fraction) (i : ℕ) (e : Entry) → 0 < tick .numerator → Sound e → WholeTimes tick e →
-    Exact (ticksCheck tick i e) (LongCondition tick i e)
+    (t : Fraction) (i : ℕ) (e : Entry) → 0 < t .numerator → Sound e → WholeTimes t e → Follows (ticksCheck t i e) (longChecks t i e)
 unfolding ticksCheck tooLong
-long-one tick i e pa s w =
-    test-exact _ (TimeTooLong i) (TooLong tick e)
-    (or-is _ _ (many-is (e .phase) tick (s .phase) pa (w .phase))
-    (or-is _ _ (many-is (e .period) tick (s .period) pa (w .period)) (many-is (e .duration) tick (s .duration) pa (w .duration))))
+long-one t i e pa s w =
+    follows-last _ (TimeTooLong i) (TooLong t e)
+    (or-is _ _ (many-is (e .phase) t (s .phase) pa (w .phase))
+    (or-is _ _ (many-is (e .period) t (s .period) pa (w .period)) (many-is (e .duration) t (s .duration) pa (w .duration))))
 
-long-exact : (es : List Entry) → AllSound es → Exact (ticksChecked (tick es) es) (Some es (LongCondition (tick es)))
-long-exact es sound =
-    each-exact 3 (ticksCheck (tick es)) (LongCondition (tick es)) (long-stands (tick es)) es
-    (λ k h. long-one (tick es) k (getD es k noEntry) (omega arith) (sound k h) (ticks-at es k sound h))
+-- the test looks at whole ticks, and there every time is a whole number of them
+long-follows : (es : List Entry) → AllSound es → Follows (ticksChecked (tick es) es) (inTurn (longChecks (tick es)) 0 es)
+long-follows es sound =
+    follows-each-in (ticksCheck (tick es)) (longChecks (tick es)) es
+    (λ k h i. long-one (tick es) i (getD es k noEntry) (omega arith) (sound k h) (ticks-at es k sound h))
+    0
 
 -- ---- All refusals of a table
 
-pub refusal-exact : (row : List ℕ) → Exact (refusal row) (Condition row)
+pub refusal-follows : (row : List ℕ) → Follows (refusal row) (order row)
 unfolding refusal
-refusal-exact row =
+refusal-follows row =
     let es : List Entry = entries row in
-    exact-same _ _ _ (conditions row)
-    (or-else-exact _ _ (CheckedCondition row) (LaterCondition row) (checked-exact row)
+    rw append-assoc
+    (follows-then (checked row) _ (checkedOrder row) _ (checked-follows row)
     (λ passed.
     let sound = checked-sound row passed in
-    or-else-exact _ _ (Some es (MultipleCondition es)) (Some es (LongCondition (tick es))) (multiple-exact es sound)
-    (λ passed-too. long-exact es sound)
-    (λ r s c d.
-    let second = multiple-stands es (c .0) (getD es (c .0) noEntry) r (c .2) in
-    let third = long-stands (tick es) (d .0) (getD es (d .0) noEntry) s (d .2) in
-    later-stage r s (omega (arith, second .at-stage, third .at-stage))))
-    (λ r s c d. later-stage r s (omega (arith, checked-stage row r c, beyond-stage row s d))))
+    follows-then (multipleChecked es) (ticksChecked (tick es) es) _ _ (multiple-follows es sound) (λ within. long-follows es sound)))

@@ -6,7 +6,8 @@ use Rattle.fraction.proofs.CommonMultiple.{multiple-is}
 use Rattle.table.specs.Row.{entries, denominators}
 use Rattle.table.specs.Promises.{Promises}
 use Rattle.table.proofs.Entries.{entries-length, entries-at}
-use Rattle.table.proofs.TrainCheck as train
+use Rattle.table.proofs.Following.{entry-follows, checked-follows}
+use Rattle.table.proofs.Limits.{refusal-follows}
 use Rattle.table.proofs.Readings as readings
 use Rattle.table.proofs.Terms as terms
 
@@ -15,14 +16,12 @@ promises =
     record {
       entries-count = entries-length;
       entries-stand = λ row i h. sym (entries-at row i h);
-      refused-exactly = readings.refused-exactly;
-      passed-exactly = readings.passed-exactly;
-      checked-exactly = readings.checked-exactly;
-      checked-passed = readings.checked-passed;
-      entry-two = train.entry-two;
-      entry-three = train.entry-three;
-      entry-four = train.entry-four;
-      entry-passed = train.entry-passed;
+      refused-exactly = λ row. refusal-follows row .refused;
+      passed-exactly = λ row. refusal-follows row .passed;
+      checked-exactly = λ row. checked-follows row .refused;
+      checked-passed = λ row. checked-follows row .passed;
+      entry-exactly = λ i e. entry-follows i e .refused;
+      entry-passed = λ i e. entry-follows i e .passed;
       tick-multiple = λ row. (refl, multiple-is (denominators (entries row)));
       tick-limit = readings.passed-limit;
       trains-count = λ row e. (readings.trains-length row, omega (arith, readings.trains-length row, readings.passed-few row e));

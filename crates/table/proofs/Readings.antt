@@ -1,17 +1,17 @@
--- The laws of the whole reading: the ways through it, when each refusal is given, and what a table is that passes.
--- Core: read-checked, read-multiple, read-rest, trains-at. The rest follows from these and from refusal-exact.
+-- The laws of the whole reading: the ways through it, and what a table is that passes.
+-- Core: read-checked, read-multiple, read-rest, trains-at. The rest follows from these and from refusal-follows.
 -- Assumes nothing.
 use Prim.Native.Nat.{ℕ, zero, suc, _*_, _<_, _≤_}
 use mathlib.Core.Path.{_≡_, refl, sym, ap, subst, _∙_}
-use mathlib.Core.Logic.{_↔_, inl, inr}
-use mathlib.Core.List.{List, [], _∷_, map}
+use mathlib.Core.Logic.{inl, inr}
+use mathlib.Core.List.{List, [], _∷_, _++_, map}
 use mathlib.Mathlib.Data.Bool.Basic.{eq-false-eq-not-eq-true}
 use native.Mathlib.Nat.{mul-pos}
 use native.Mathlib.Omega.{arith}
 use lib.ListN.{length, getD, take, length-map}
 use lib.Seq.{take-all}
 use Rattle.refusal.specs.declared.Refusal.{Refusal}
-use Rattle.refusal.specs.declared.Refusal.the-variants.{TickTooFine, TimeTooLong}
+use Rattle.refusal.specs.Order.{inTurn, None}
 use Rattle.fraction.specs.declared.Fraction.{Fraction}
 use Rattle.fraction.specs.declared.Ticks.the-variants.{Whole}
 use Rattle.fraction.specs.declared.Multiple.the-variants.{Within}
@@ -26,15 +26,13 @@ use Rattle.table.specs.declared.Outcome.{Outcome}
 use Rattle.table.specs.declared.Outcome.the-variants.{Passed, Refused}
 use Rattle.table.specs.declared.Reading.{Reading}
 use Rattle.table.specs.Row.{capacity, noEntry, entries, denominators, multiple, tick, whole, ticksOf, trainOf, trains, ExactTrain}
-use Rattle.table.specs.Given.{Condition, stage, Given}
+use Rattle.table.specs.Given.{checkedOrder, multipleChecks, longChecks}
 use Rattle.table.specs.Answer.{orElse, checked, multipleChecked, ticksChecked, refusal, noTrain, tableOf, refused, readAfter, reading}
 use Rattle.table.specs.Inside.{readTicks}
 use Rattle.table.proofs.Entries.{entries-few}
-use Rattle.table.proofs.Checks.{refused-not-passed}
-use Rattle.table.proofs.Order.{earlier-stage}
-use Rattle.table.proofs.Exactly.{Exact, exact-same, exact-refused, exact-passed}
-use Rattle.table.proofs.Conditions.{AllSound, checked-sound, checked-length, checked-exact, checked-condition, not-above}
-use Rattle.table.proofs.Limits.{multiple-pos, ticks-at, refusal-exact}
+use Rattle.table.proofs.InOrder.{none-of-both, none-each}
+use Rattle.table.proofs.Following.{AllSound, not-above, checked-follows, checked-sound, checked-length}
+use Rattle.table.proofs.Limits.{multiple-pos, ticks-at, refusal-follows}
 
 -- ---- Core laws
 
@@ -91,45 +89,21 @@ module _ (row : List ℕ) where
   read-rest m r e f w is =
       is ∙ ap (λ (t : Fraction). readTicks t (entries row)) (read-tick m e w) ∙ (λ i. from (sym e i) (sym f i)) ∙ stages
 
-  -- ---- When a refusal is given
-
-  pub refused-exactly : (r : Refusal) → (refusal row ≡ Refused r) ↔ Given row r
-  refused-exactly r =
-      let is = exact-refused (refusal row) (Condition row) (refusal-exact row) r in
-      ((λ e. let g = is .0 e in record { holds = g .0; first = g .1 }), (λ g. is .1 (g .holds, g .first)))
-
-  pub passed-exactly : (refusal row ≡ Passed) ↔ ((r : Refusal) → Condition row r → ⊥)
-  passed-exactly = exact-passed (refusal row) (Condition row) (refusal-exact row)
-
-  -- refusals 1 to 4 in the words of the paper
-  checked-given : Exact (checked row) (λ r. Condition row r × (stage r ≤ 1))
-  checked-given = exact-same (checked row) _ _ (checked-condition row) (checked-exact row)
-
-  pub checked-exactly : (r : Refusal) → (checked row ≡ Refused r) ↔ (Given row r × (stage r ≤ 1))
-  checked-exactly r =
-      let is = exact-refused (checked row) _ checked-given r in (
-        (λ e.
-            let g = is .0 e in
-            (record { holds = g .0 .0; first = λ s early c. g .1 s early (c, omega (arith, earlier-stage s r early, g .0 .1)) }, g .0 .1)),
-        (λ g. is .1 ((g .0 .holds, g .1), λ s early c. g .0 .first s early (c .0))),
-      )
-
-  pub checked-passed : (checked row ≡ Passed) ↔ ((r : Refusal) → stage r ≤ 1 → Condition row r → ⊥)
-  checked-passed =
-      let is = exact-passed (checked row) _ checked-given in ((λ e r l c. is .0 e r (c, l)), (λ none. is .1 (λ r c. none r (c .1) (c .0))))
-
   -- ---- What a table is that it passes
+
+  -- no condition of the order's three parts holds
+  passed-none :
+      refusal row ≡ Passed →
+      (None (checkedOrder row) × None (inTurn (multipleChecks (entries row)) 0 (entries row)))
+      × None (inTurn (longChecks (tick (entries row))) 0 (entries row))
+  passed-none e =
+      let none = refusal-follows row .passed .0 e in
+      let parts = none-of-both (checkedOrder row ++ inTurn (multipleChecks (entries row)) 0 (entries row)) _ .0 none in
+      (none-of-both (checkedOrder row) _ .0 (parts .0), parts .1)
 
   -- what passes all passes the first
   pub passed-checked : refusal row ≡ Passed → checked row ≡ Passed
-  unfolding refusal
-  passed-checked e = go (checked row) refl e
-    where
-      go :
-          (o : Outcome) → checked row ≡ o →
-          orElse o (orElse (multipleChecked (entries row)) (ticksChecked (tick (entries row)) (entries row))) ≡ Passed → checked row ≡ Passed
-      go Passed q e = q
-      go (Refused r) q e = absurd (refused-not-passed r e)
+  passed-checked e = checked-follows row .passed .1 (passed-none e .0 .0)
 
   pub passed-sound : refusal row ≡ Passed → AllSound (entries row)
   passed-sound e = checked-sound row (passed-checked e)
@@ -146,12 +120,11 @@ module _ (row : List ℕ) where
   trains-at i h = getD-map (trainOf (tick (entries row))) (entries row) i noEntry noTrain h
 
   module _ (e : refusal row ≡ Passed) where
-    none : (r : Refusal) → Condition row r → ⊥
-    none = refusal-exact row .passed e
-
     pub passed-limit : multiple (entries row) ≤ limit
+    unfolding None
     passed-limit =
-        all-within (entries row) (λ i h. not-above (λ l. none (TickTooFine i) (h, l)))
+        all-within (entries row)
+        (λ i h. not-above (none-each (multipleChecks (entries row)) (entries row) (passed-none e .0 .1) i h .0))
 
     pub passed-few : length (entries row) ≤ capacity
     passed-few = entries-few row (checked-length row (passed-checked e))
@@ -173,9 +146,11 @@ module _ (row : List ℕ) where
       passed-exact = subst (ExactTrain (tick (entries row)) (getD (entries row) i noEntry)) (sym (trains-at i h)) exact-entry
 
       limits-entry : Limits (trainOf (tick (entries row)) (getD (entries row) i noEntry))
+      unfolding None
       limits-entry =
           let s = passed-sound e i h in
           let x = exact-entry in
+          let short = none-each (longChecks (tick (entries row))) (entries row) (passed-none e .1) i h .0 in
           let l = multiple-pos (entries row) (passed-sound e) in
           let above = above-ticks _ _ (tick (entries row)) _ _ (s .duration) (s .period) (omega arith) l (x .duration) (x .period) in
           record {
@@ -184,8 +159,8 @@ module _ (row : List ℕ) where
                   some = some-ticks _ _ _ (x .duration) (mul-pos (s .some-duration) l);
                   fits = not-above (λ lt. eq-false-eq-not-eq-true _ .1 (s .fits) (above .1 lt));
                 };
-            period = not-above (λ lt. none (TimeTooLong i) (h, inr (inl (_, x .period, lt))));
-            phase = not-above (λ lt. none (TimeTooLong i) (h, inl (_, x .phase, lt)));
+            period = not-above (λ lt. short (inr (inl (_, x .period, lt))));
+            phase = not-above (λ lt. short (inl (_, x .phase, lt)));
           }
 
       pub passed-limits : Limits (getD (trains row) i noTrain)

@@ -3,9 +3,10 @@
 -- Assumes nothing.
 use Prim.Native.Nat.{ℕ, zero, suc, _*_, _/_, _%_, _<_, _≤_}
 use mathlib.Core.Path.{_≡_, refl, sym, ap, fun-ext, _∙_}
-use mathlib.Core.Bool.{Bool, true, false, not, _||_}
+use mathlib.Core.Bool.{Bool, true, false, not}
 use mathlib.Core.Logic.{inl, inr}
 use mathlib.Core.List.{List, [], _∷_, map}
+use mathlib.Mathlib.Data.Bool.Basic.{or-eq-false-eq-eq-false-and-eq-false}
 use native.Mathlib.Nat.{mul-pos, pos-of-ne-zero}
 use native.Mathlib.Decide.{decLe}
 use native.Mathlib.Omega.{arith}
@@ -24,7 +25,7 @@ use Rattle.table.specs.declared.Reading.{Reading}
 use Rattle.table.specs.Row.{numbers, longestRow, noEntry, entries, lowestEntry, denominators, tick, trainOf, SameTime, SameEntry, SameRow}
 use Rattle.table.specs.Answer.{test, orElse, firstRefusal, noDenominator, noTime, entryCheck, checked, isAbove, multipleCheck, multipleChecked, tooLong, ticksCheck, ticksChecked, refusal, filled, tableOf, readAfter, reading}
 use Rattle.table.proofs.Entries.{entries-length}
-use Rattle.table.proofs.Checks.{false-not-true, threeTests}
+use Rattle.table.proofs.Checks.{threeTests}
 
 -- ---- Lowest terms
 
@@ -88,18 +89,12 @@ no-time-lowest : (e : Entry) → noTime (lowestEntry e) ≡ noTime e
 unfolding noTime
 no-time-lowest e = rw (numerator-zero (e .period), numerator-zero (e .duration))
 
--- of two conditions neither holds
-neither : (b c : Bool) → (b || c) ≡ false → (b ≡ false) × (c ≡ false)
-neither false c e = (refl, e)
-neither true c e = absurd (false-not-true (sym e))
-
 above-lowest-entry :
     (e : Entry) → noDenominator e ≡ false → above (lowest (e .duration)) (lowest (e .period)) ≡ above (e .duration) (e .period)
 unfolding noDenominator
 above-lowest-entry e q =
-    let others =
-    neither (eqb (e .period .denominator) 0) (eqb (e .duration .denominator) 0)
-    (neither (eqb (e .phase .denominator) 0) (eqb (e .period .denominator) 0 || eqb (e .duration .denominator) 0) q .1) in
+    let neither = or-eq-false-eq-eq-false-and-eq-false in
+    let others = neither _ (eqb (e .duration .denominator) 0) .0 (neither (eqb (e .phase .denominator) 0) _ .0 q .1) in
     above-lowest (e .duration) (e .period) (others .1) (others .0)
 
 entry-lowest : (i : ℕ) (e : Entry) → entryCheck i (lowestEntry e) ≡ entryCheck i e

@@ -5,27 +5,23 @@
 --     TooLong tick e          a train has such a time
 --     trainChecks i e         refusals 2, 3 and 4 of the train at position i
 --     checkedOrder row        refusals 1 to 4 of a row, in their order
---     TrainWith es i P        the train at position i has a property
---     Condition row r         the paper's condition for refusal r holds of the row
---     stage r                 1; then train by train 2, 3, 4; then 5 over the table; then 6
---     Earlier r s             refusal r comes before s in that order
---     Given row r             the condition for r holds, and none that comes earlier
+--     multipleChecks es i e   refusal 5 of the train at position i
+--     longChecks t i e        refusal 6 of the train at position i, where t is the tick
+--     order row               refusals 1 to 6 of a row, in their order
 use Prim.Native.Nat.{ℕ, suc, _<_, _∣_}
 use mathlib.Core.Path.{_≡_}
 use mathlib.Core.Bool.{true}
 use mathlib.Core.Logic.{_⊎_}
-use mathlib.Core.List.{List, [], _∷_}
-use lib.ListN.{length, getD, take}
-use Rattle.refusal.specs.declared.Refusal.{Refusal}
-use Rattle.refusal.specs.declared.Refusal.the-variants.{TrainCount, ZeroDenominator, ZeroTime, DurationAbovePeriod, TickTooFine, TimeTooLong, BufferTooShort, WrongMark, WrongVersion, WrongLength, NotLowestTerms, NotATrain, NoEmptyPlace, Collision, NoTrainThere, WrongCount}
-use Rattle.refusal.specs.Paper.{paper}
+use mathlib.Core.List.{List, [], _∷_, _++_}
+use lib.ListN.{length, take}
+use Rattle.refusal.specs.declared.Refusal.the-variants.{TrainCount, ZeroDenominator, ZeroTime, DurationAbovePeriod, TickTooFine, TimeTooLong}
 use Rattle.refusal.specs.Order.{Check, _when_, inTurn}
 use Rattle.fraction.specs.declared.Fraction.{Fraction}
 use Rattle.fraction.specs.Value.{IsTicks}
 use Rattle.fraction.specs.Answer.{above, limit}
 use Rattle.train.specs.Claims.{maxTicks}
 use Rattle.table.specs.declared.Entry.{Entry}
-use Rattle.table.specs.Row.{numbers, longestRow, noEntry, entries, multiple, tick}
+use Rattle.table.specs.Row.{numbers, longestRow, entries, multiple, tick}
 
 -- A denominator is 0.
 abbrev pub NoDenominator : Entry → Type 0
@@ -57,56 +53,17 @@ checkedOrder row =
     (TrainCount when ((numbers ∣ length row → ⊥) ⊎ (longestRow < length row)))
     ∷ inTurn trainChecks 0 (entries row)
 
--- There is a train at position i, and it has the property.
-abbrev pub TrainWith : List Entry → ℕ → (Entry → Type 0) → Type 0
-TrainWith es i P = (i < length es) × P (getD es i noEntry)
+-- 5 at a train: the running multiple, which is L of the trains up to and including it, passes the limit.
+abbrev pub multipleChecks : List Entry → ℕ → Entry → List Check
+multipleChecks es i e = (TickTooFine i when (limit < multiple (take (suc i) es))) ∷ []
 
--- The conditions of the paper's table, each with its train; the other refusals are not a table's.
-abbrev pub Condition : List ℕ → Refusal → Type 0
-Condition row TrainCount = (numbers ∣ length row → ⊥) ⊎ (longestRow < length row)
-Condition row (ZeroDenominator i) = TrainWith (entries row) i NoDenominator
-Condition row (ZeroTime i) = TrainWith (entries row) i NoTime
-Condition row (DurationAbovePeriod i) = TrainWith (entries row) i (λ e. above (e .duration) (e .period) ≡ true)
-Condition row (TickTooFine i) = TrainWith (entries row) i (λ e. limit < multiple (take (suc i) (entries row)))
-Condition row (TimeTooLong i) = TrainWith (entries row) i (TooLong (tick (entries row)))
-Condition row BufferTooShort = ⊥
-Condition row WrongMark = ⊥
-Condition row WrongVersion = ⊥
-Condition row WrongLength = ⊥
-Condition row (NotLowestTerms i) = ⊥
-Condition row NotATrain = ⊥
-Condition row NoEmptyPlace = ⊥
-Condition row (Collision i) = ⊥
-Condition row NoTrainThere = ⊥
-Condition row WrongCount = ⊥
+-- 6 at a train: it has a time of more than 10,000,000 ticks.
+abbrev pub longChecks : Fraction → ℕ → Entry → List Check
+longChecks t i e = (TimeTooLong i when TooLong t e) ∷ []
 
--- Order. 1; then train by train 2, 3, 4; then 5 over the table; then 6; and then what is no refusal of a table.
-abbrev pub stage : Refusal → ℕ
-stage TrainCount = 0
-stage (ZeroDenominator i) = 1
-stage (ZeroTime i) = 1
-stage (DurationAbovePeriod i) = 1
-stage (TickTooFine i) = 2
-stage (TimeTooLong i) = 3
-stage BufferTooShort = 4
-stage WrongMark = 4
-stage WrongVersion = 4
-stage WrongLength = 4
-stage (NotLowestTerms i) = 4
-stage NotATrain = 4
-stage NoEmptyPlace = 4
-stage (Collision i) = 4
-stage NoTrainThere = 4
-stage WrongCount = 4
-
--- Of two refusals of one stage the one of the earlier train comes first, and of one train the smaller number.
-abbrev pub Earlier : Refusal → Refusal → Type 0
-Earlier r s =
-    (stage r < stage s)
-    ⊎ ((stage r ≡ stage s)
-    × ((paper r .place < paper s .place) ⊎ ((paper r .place ≡ paper s .place) × (paper r .number < paper s .number))))
-
--- A refusal is given when its condition holds and no condition earlier in the order does.
-pub record Given (row : List ℕ) (r : Refusal) : Type 0 where
-  pub holds : Condition row r
-  pub first : (s : Refusal) → Earlier s r → Condition row s → ⊥
+-- 1; then train by train 2, 3, 4; then 5 over the table; then 6.
+abbrev pub order : List ℕ → List Check
+order row =
+    checkedOrder row
+    ++ inTurn (multipleChecks (entries row)) 0 (entries row)
+    ++ inTurn (longChecks (tick (entries row))) 0 (entries row)

@@ -1,7 +1,7 @@
 -- `read` meets its contract: the checks one after another, then the trains in ticks of 1/L.
 -- Assumes nothing.
 use mathlib.Core.Path.{refl, sym, _∙_}
-use Rattle.table.proofs.Conditions.{checked-length}
+use Rattle.table.proofs.Following.{checked-length}
 use Rattle.table.proofs.Readings.{read-checked, read-multiple, read-rest}
 use borrow.Author.Needs.{needs}
 use Rattle.table.proofs.read.Statement.{statement}
