@@ -4,11 +4,10 @@
 use Prim.Native.Nat.{ℕ, zero, suc, _+_, _*_, _/_, _%_, _<_, _≤_}
 use mathlib.Core.Path.{_≡_, refl, sym, ap, _∙_}
 use mathlib.Core.List.{List, [], _∷_, _++_, append-assoc, append-nil, flatMap}
-use native.Mathlib.Nat.{zero-add}
+use native.Mathlib.Numerals.{add-one}
 use native.Mathlib.Omega.{arith}
 use lib.ListN.{length, getD, take, drop, length-drop, drop-of-length-le, take-append-drop}
 use lib.Seq.{drop-cons, drop-drop, getD-drop}
-use Rattle.fraction.specs.declared.Fraction.{Fraction}
 use Rattle.table.specs.declared.Entry.{Entry}
 use Rattle.table.specs.Row.{recordLength}
 use Rattle.stored.specs.Layout.{mark, version, headLength, bytes16, bytes32, recordOf, headOf, bytesOf, Bytes}
@@ -25,10 +24,6 @@ number-whole n = omega arith
 record-read : (e : Entry) (rest : List ℕ) → entryIn (recordOf e ++ rest) 0 ≡ e
 unfolding number32
 record-read e rest =
-    let time : (f : Fraction) → Fraction = λ f. record {
-      numerator = number32 (bytes32 (f .numerator)) 0;
-      denominator = number32 (bytes32 (f .denominator)) 0;
-    } in
     λ i. record {
       phase = record { numerator = number-whole (e .phase .numerator) i; denominator = number-whole (e .phase .denominator) i };
       period = record { numerator = number-whole (e .period .numerator) i; denominator = number-whole (e .period .denominator) i };
@@ -50,10 +45,98 @@ layout-read es = ap (λ (n : ℕ). recordsIn recordLength n (flatMap recordOf es
 
 -- ---- What is read is written again
 
+two-bytes : (a b : ℕ) → b < 256 → bytes16 (a * 256 + b) ≡ a ∷ b ∷ []
+two-bytes a b hb =
+    let p : (a * 256 + b) / 256 ≡ a = omega arith in
+    let q : (a * 256 + b) % 256 ≡ b = omega arith in
+    λ i. p i ∷ q i ∷ []
+
+four-bytes :
+    (a b c d : ℕ) → a < 256 → b < 256 → c < 256 → d < 256 →
+    bytes32 (a * 16777216 + b * 65536 + c * 256 + d) ≡ a ∷ b ∷ c ∷ d ∷ []
+four-bytes a b c d ha hb hc hd =
+    let n : ℕ = a * 16777216 + b * 65536 + c * 256 + d in
+    let p : n / 16777216 ≡ a = omega arith in
+    let q : n / 65536 % 256 ≡ b = omega arith in
+    let r : n / 256 % 256 ≡ c = omega arith in
+    let s : n % 256 ≡ d = omega arith in
+    λ i. p i ∷ q i ∷ r i ∷ s i ∷ []
+
+-- the first of some bytes, and the others
+first-byte : (bs : List ℕ) (at : ℕ) → at + 1 ≤ length bs → drop at bs ≡ getD bs at 0 ∷ drop (at + 1) bs
+first-byte bs at h = drop-cons bs at 0 (omega arith) ∙ ap (λ (n : ℕ). getD bs at 0 ∷ drop n bs) (sym (add-one at))
+
 module _ (bs : List ℕ) (bytes : Bytes bs) where
   two-written : (at : ℕ) → at + 2 ≤ length bs → bytes16 (number16 bs at) ++ drop (at + 2) bs ≡ drop at bs
-  two-written at h = ?
+  two-written at h =
+      let e : at + 1 + 1 ≡ at + 2 = omega arith in
+      ap (λ (l : List ℕ). l ++ drop (at + 2) bs) (two-bytes (getD bs at 0) (getD bs (at + 1) 0) (bytes (at + 1)))
+      ∙ sym
+      (first-byte bs at (omega arith)
+      ∙ ap (λ (l : List ℕ). getD bs at 0 ∷ l) (first-byte bs (at + 1) (omega arith) ∙ ap (λ (n : ℕ). getD bs (at + 1) 0 ∷ drop n bs) e))
 
   number-written : (at : ℕ) → at + 4 ≤ length bs → bytes32 (number32 bs at) ++ drop (at + 4) bs ≡ drop at bs
   unfolding number32
-  number-written at h = ?
+  number-written at h =
+      let e₁ : at + 1 + 1 ≡ at + 2 = omega arith in
+      let e₂ : at + 2 + 1 ≡ at + 3 = omega arith in
+      let e₃ : at + 3 + 1 ≡ at + 4 = omega arith in
+      let fourth = first-byte bs (at + 3) (omega arith) ∙ ap (λ (n : ℕ). getD bs (at + 3) 0 ∷ drop n bs) e₃ in
+      let third =
+      first-byte bs (at + 2) (omega arith)
+      ∙ ap (λ (n : ℕ). getD bs (at + 2) 0 ∷ drop n bs) e₂
+      ∙ ap (λ (l : List ℕ). getD bs (at + 2) 0 ∷ l) fourth in
+      let second =
+      first-byte bs (at + 1) (omega arith)
+      ∙ ap (λ (n : ℕ). getD bs (at + 1) 0 ∷ drop n bs) e₁
+      ∙ ap (λ (l : List ℕ). getD bs (at + 1) 0 ∷ l) third in
+      ap (λ (l : List ℕ). l ++ drop (at + 4) bs)
+      (four-bytes (getD bs at 0) (getD bs (at + 1) 0) (getD bs (at + 2) 0) (getD bs (at + 3) 0) (bytes at) (bytes (at + 1)) (bytes (at + 2)) (bytes (at + 3)))
+      ∙ sym (first-byte bs at (omega arith) ∙ ap (λ (l : List ℕ). getD bs at 0 ∷ l) second)
+
+  record-written : recordLength ≤ length bs → recordOf (entryIn bs 0) ++ drop recordLength bs ≡ bs
+  record-written h =
+      let n : ℕ → List ℕ = λ at. bytes32 (number32 bs at) in
+      ap (λ (l : List ℕ). n 0 ++ (n 4 ++ (n 8 ++ (n 12 ++ (n 16 ++ l))))) (number-written 20 (omega arith))
+      ∙ ap (λ (l : List ℕ). n 0 ++ (n 4 ++ (n 8 ++ (n 12 ++ l)))) (number-written 16 (omega arith))
+      ∙ ap (λ (l : List ℕ). n 0 ++ (n 4 ++ (n 8 ++ l))) (number-written 12 (omega arith))
+      ∙ ap (λ (l : List ℕ). n 0 ++ (n 4 ++ l)) (number-written 8 (omega arith))
+      ∙ ap (λ (l : List ℕ). n 0 ++ l) (number-written 4 (omega arith))
+      ∙ number-written 0 (omega arith)
+
+-- what stands behind some bytes is bytes too
+bytes-behind : (n : ℕ) (bs : List ℕ) → Bytes bs → Bytes (drop n bs)
+bytes-behind n bs bytes i = rw (getD-drop n bs i 0) (bytes (n + i))
+
+records-written :
+    (count : ℕ) (bs : List ℕ) → Bytes bs → count * recordLength ≤ length bs →
+    flatMap recordOf (recordsIn recordLength count bs) ++ drop (count * recordLength) bs ≡ bs
+unfolding flatMap recordsIn
+records-written zero bs bytes h = refl
+records-written (suc count) bs bytes h =
+    let rest : List ℕ = drop recordLength bs in
+    let e : recordLength + count * recordLength ≡ suc count * recordLength = omega arith in
+    let more : List ℕ = flatMap recordOf (recordsIn recordLength count rest) in
+    append-assoc (recordOf (entryIn bs 0)) more (drop (suc count * recordLength) bs)
+    ∙ ap (λ (l : List ℕ). recordOf (entryIn bs 0) ++ (more ++ l)) (ap (λ (n : ℕ). drop n bs) (sym e) ∙ sym (drop-drop (count * recordLength) recordLength bs))
+    ∙ ap (λ (l : List ℕ). recordOf (entryIn bs 0) ++ l)
+    (records-written count rest (bytes-behind recordLength bs bytes) (omega (arith, length-drop recordLength bs)))
+    ∙ record-written bs bytes (omega arith)
+
+pub layout-written : (bs : List ℕ) → Bytes bs → Headed bs → bytesOf (trainsIn bs) ≡ bs
+unfolding bytesOf
+layout-written bs bytes found =
+    let behind : List ℕ = drop headLength bs in
+    let count : ℕ = countIn bs in
+    let left : length behind ≤ count * recordLength = omega (arith, length-drop headLength bs, found .whole) in
+    let all : flatMap recordOf (trainsIn bs) ≡ behind =
+    sym (append-nil (flatMap recordOf (trainsIn bs)))
+    ∙ ap (λ (l : List ℕ). flatMap recordOf (trainsIn bs) ++ l) (sym (drop-of-length-le behind left))
+    ∙ records-written count behind (bytes-behind headLength bs bytes) (omega (arith, length-drop headLength bs, found .whole)) in
+    ap (λ (n : ℕ). headOf n ++ flatMap recordOf (trainsIn bs)) (records-length recordLength count behind)
+    ∙ ap (λ (l : List ℕ). headOf count ++ l) all
+    ∙ ap (λ (l : List ℕ). mark ++ (bytes16 version ++ l)) (two-written bs bytes 5 (omega (arith, found .long)))
+    ∙ ap (λ (v : ℕ). mark ++ (bytes16 v ++ drop 5 bs)) (sym (found .right))
+    ∙ ap (λ (l : List ℕ). mark ++ l) (two-written bs bytes 3 (omega (arith, found .long)))
+    ∙ ap (λ (l : List ℕ). l ++ drop 3 bs) (sym (found .marked))
+    ∙ take-append-drop 3 bs

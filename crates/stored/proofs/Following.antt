@@ -23,9 +23,8 @@ use Rattle.table.specs.declared.Outcome.the-variants.{Passed}
 use Rattle.table.specs.Row.{capacity, numbers, entries}
 use Rattle.table.specs.Given.{NoTime, checkedOrder}
 use Rattle.table.specs.Answer.{test, orElse, noTime, noDenominator, firstRefusal, entryCheck, checked}
-use Rattle.table.proofs.InOrder.{Follows, follows-test, follows-then, follows-last, follows-each}
-use Rattle.table.proofs.TrainCheck.{eqb-is, ltb-is, no-time-is}
-use Rattle.table.proofs.Following.{checked-follows}
+use Rattle.table.proofs.InOrder.{eqb-is, ltb-is, Follows, follows-test, follows-then, follows-last, follows-each}
+use Rattle.table.proofs.Following.{no-time-is, checked-follows}
 use Rattle.stored.specs.Layout.{mark, version, headLength, lengthOf}
 use Rattle.stored.specs.Found.{versionIn, countIn, trainsIn}
 use Rattle.stored.specs.Given.{saveOrder, timeChecks, storedChecks, headChecks, loadOrder}

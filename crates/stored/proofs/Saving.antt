@@ -20,7 +20,7 @@ use Rattle.table.specs.declared.Outcome.the-variants.{Passed, Refused}
 use Rattle.table.specs.Row.{capacity, numbers, recordLength, entries, lowestEntry}
 use Rattle.table.specs.Answer.{test, orElse, checked}
 use Rattle.table.proofs.Entries.{entries-length, entries-few}
-use Rattle.table.proofs.Conditions.{checked-length}
+use Rattle.table.proofs.Following.{checked-length}
 use Rattle.stored.specs.declared.Saved.{Saved}
 use Rattle.stored.specs.declared.Saved.the-variants as saves
 use Rattle.stored.specs.Layout.{headLength, recordOf, headOf, bytesOf, lengthOf}

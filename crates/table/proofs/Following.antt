@@ -32,7 +32,7 @@ no-denominator-is e =
     or-is _ _ (eqb-is (e .phase .denominator) 0)
     (or-is _ _ (eqb-is (e .period .denominator) 0) (eqb-is (e .duration .denominator) 0))
 
-no-time-is : (e : Entry) → (noTime e ≡ true) ↔ NoTime e
+pub no-time-is : (e : Entry) → (noTime e ≡ true) ↔ NoTime e
 unfolding noTime
 no-time-is e = or-is _ _ (eqb-is (e .period .numerator) 0) (eqb-is (e .duration .numerator) 0)
 
