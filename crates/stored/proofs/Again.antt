@@ -11,7 +11,7 @@ use lib.Seq.{drop-cons, drop-drop, getD-drop}
 use Rattle.table.specs.declared.Entry.{Entry}
 use Rattle.table.specs.Row.{recordLength}
 use Rattle.stored.specs.Layout.{mark, version, headLength, bytes16, bytes32, recordOf, headOf, bytesOf, Bytes}
-use Rattle.stored.specs.Found.{number16, number32, entryIn, recordsIn, countIn, trainsIn}
+use Rattle.stored.specs.Found.{number16, number32, entryIn, recordsIn, versionIn, countIn, trainsIn}
 use Rattle.stored.proofs.Walk.{records-length}
 use Rattle.stored.proofs.Loading.{Headed}
 
@@ -34,6 +34,14 @@ records-read : (es : List Entry) → recordsIn recordLength (length es) (flatMap
 unfolding recordsIn flatMap
 records-read [] = refl
 records-read (e ∷ es) = λ i. record-read e (flatMap recordOf es) i ∷ records-read es i
+
+pub layout-mark : (es : List Entry) → take 3 (bytesOf es) ≡ mark
+unfolding bytesOf
+layout-mark es = refl
+
+pub layout-version : (es : List Entry) → versionIn (bytesOf es) ≡ version
+unfolding bytesOf
+layout-version es = refl
 
 pub layout-count : (es : List Entry) → countIn (bytesOf es) ≡ length es
 unfolding bytesOf

@@ -4,33 +4,41 @@
 use Prim.Native.Nat.{ℕ, _*_, _<_}
 use mathlib.Core.Path.{_≡_, refl, sym, ap, subst, _∙_}
 use mathlib.Core.Bool.{Bool, true, false, not, false≢true, and-eq-true-iff}
-use mathlib.Core.Logic.{_↔_}
-use mathlib.Core.List.{List, [], _∷_, _++_}
+use mathlib.Core.Logic.{_↔_, Iff·trans}
+use mathlib.Core.List.{List, [], _∷_, _++_, map}
 use native.Mathlib.Omega.{arith}
 use lib.Dec.{ltb, eqb}
-use lib.ListN.{length, getD, take}
+use lib.ListN.{length, getD, take, length-map}
 use lib.Seq.{getD-take}
 use borrow.Author.Tests.{eq-eqb, ne-eqb, eqb-true}
+use Rattle.refusal.specs.declared.Refusal.{Refusal}
 use Rattle.refusal.specs.declared.Refusal.the-variants.{TrainCount, ZeroDenominator, ZeroTime, DurationAbovePeriod, BufferTooShort, WrongMark, WrongVersion, WrongLength, NotLowestTerms}
-use Rattle.refusal.specs.Order.{_when_, None}
+use Rattle.refusal.specs.Order.{_when_, None, First}
 use Rattle.fraction.specs.declared.Fraction.{Fraction}
 use Rattle.fraction.specs.Value.{LowestTerms}
 use Rattle.fraction.specs.Answer.{isLowest, above}
 use Rattle.fraction.proofs.Lowest.{is-lowest}
 use Rattle.table.specs.declared.Entry.{Entry}
 use Rattle.table.specs.declared.Outcome.{Outcome}
-use Rattle.table.specs.declared.Outcome.the-variants.{Passed}
-use Rattle.table.specs.Row.{capacity, numbers, entries}
+use Rattle.table.specs.declared.Outcome.the-variants.{Passed, Refused}
+use Rattle.table.specs.Row.{capacity, numbers, entries, lowestEntry}
 use Rattle.table.specs.Given.{NoTime, checkedOrder}
 use Rattle.table.specs.Answer.{test, orElse, noTime, noDenominator, firstRefusal, entryCheck, checked}
+use Rattle.table.proofs.Checks.{refused-not-passed}
 use Rattle.table.proofs.InOrder.{eqb-is, ltb-is, Follows, follows-test, follows-then, follows-last, follows-each}
 use Rattle.table.proofs.Following.{no-time-is, checked-follows}
-use Rattle.stored.specs.Layout.{mark, version, headLength, lengthOf}
+use Rattle.stored.specs.declared.Saved.the-variants as saves
+use Rattle.stored.specs.declared.Loaded.the-variants as loads
+use Rattle.stored.specs.Layout.{mark, version, headLength, bytesOf, lengthOf}
 use Rattle.stored.specs.Found.{versionIn, countIn, trainsIn}
 use Rattle.stored.specs.Given.{saveOrder, timeChecks, storedChecks, headChecks, loadOrder}
-use Rattle.stored.specs.Answer.{saveCheck, hasMark, headCheck, timeCheck, storedCheck, loadCheck}
+use Rattle.stored.specs.Answer.{saveCheck, savedAfter, saved, hasMark, headCheck, timeCheck, storedCheck, loadCheck, loadedAfter, loaded}
+use Rattle.stored.proofs.Stores.{layout-length}
 
 -- ---- Core laws
+
+zero-not-one : _≡_ {A = ℕ} 0 1 → ⊥
+zero-not-one z = omega arith
 
 -- a test that is turned round
 not-is : {P : Type 0} (b : Bool) → (b ≡ true) ↔ P → (not b ≡ true) ↔ (P → ⊥)
@@ -134,3 +142,39 @@ unfolding saveCheck
 save-follows row room =
     follows-then (checked row) _ (checkedOrder row) _ (checked-follows row)
     (λ passed. follows-last _ BufferTooShort _ (ltb-is room (lengthOf (length (entries row)))))
+
+-- ---- The answers of the calls are those of their checks
+
+saved-refused : (o : Outcome) (n : ℕ) (r : Refusal) → (savedAfter o n ≡ saves.Refused r) ↔ (o ≡ Refused r)
+saved-refused Passed n r = ((λ e. absurd (zero-not-one cc)), (λ e. absurd (refused-not-passed r (sym e))))
+saved-refused (Refused q) n r = ((λ e. cc), (λ e. cc))
+
+pub saved-length : (o : Outcome) (n k : ℕ) → (savedAfter o n ≡ saves.Length k) ↔ ((o ≡ Passed) × (n ≡ k))
+saved-length Passed n k = ((λ e. (refl, cc)), (λ e. ap saves.Length (e .1)))
+saved-length (Refused q) n k = ((λ e. absurd (zero-not-one cc)), (λ e. absurd (refused-not-passed q (e .0))))
+
+loaded-refused : (o : Outcome) (n : ℕ) (r : Refusal) → (loadedAfter o n ≡ loads.Refused r) ↔ (o ≡ Refused r)
+loaded-refused Passed n r = ((λ e. absurd (zero-not-one cc)), (λ e. absurd (refused-not-passed r (sym e))))
+loaded-refused (Refused q) n r = ((λ e. cc), (λ e. cc))
+
+pub loaded-count : (o : Outcome) (n k : ℕ) → (loadedAfter o n ≡ loads.Count k) ↔ ((o ≡ Passed) × (n ≡ k))
+loaded-count Passed n k = ((λ e. (refl, cc)), (λ e. ap loads.Count (e .1)))
+loaded-count (Refused q) n k = ((λ e. absurd (zero-not-one cc)), (λ e. absurd (refused-not-passed q (e .0))))
+
+pub save-refused : (row : List ℕ) (room : ℕ) (r : Refusal) → (saved row room ≡ saves.Refused r) ↔ First (saveOrder row room) r
+save-refused row room r = Iff·trans (saved-refused (saveCheck row room) _ r) (save-follows row room .refused r)
+
+pub load-refused : (bs : List ℕ) (room : ℕ) (r : Refusal) → (loaded bs room ≡ loads.Refused r) ↔ First (loadOrder bs room) r
+load-refused bs room r = Iff·trans (loaded-refused (loadCheck bs room) _ r) (load-follows bs room .refused r)
+
+pub save-written :
+    (row : List ℕ) (room n : ℕ) →
+    (saved row room ≡ saves.Length n) ↔ (None (saveOrder row room) × (n ≡ length (bytesOf (map lowestEntry (entries row)))))
+save-written row room n =
+    let answer = saved-length (saveCheck row room) (lengthOf (length (entries row))) n in
+    let follows = save-follows row room .passed in
+    let long : length (bytesOf (map lowestEntry (entries row))) ≡ lengthOf (length (entries row)) =
+    layout-length (map lowestEntry (entries row)) ∙ ap lengthOf (length-map (entries row) lowestEntry) in (
+      (λ e. let a = answer .0 e in (follows .0 (a .0), sym (long ∙ a .1))),
+      (λ c. answer .1 (follows .1 (c .0), sym (c .1 ∙ long))),
+    )

@@ -6,3 +6,6 @@ pub mod Following
 pub mod Saving
 pub mod Loading
 pub mod Again
+pub mod Accepted
+pub mod RoundTrip
+pub mod Promises

@@ -37,27 +37,28 @@ pub record Headed (bs : List ℕ) : Type 0 where
   pub few : countIn bs ≤ capacity
   pub whole : length bs ≡ lengthOf (countIn bs)
 
--- a check that passes passes its first test, and then the rest
-past-test : (b : Bool) (r : Refusal) (p : Outcome) → orElse (test b r) p ≡ Passed → (b ≡ false) × (p ≡ Passed)
-past-test true r p e = absurd (refused-not-passed r e)
-past-test false r p e = (refl, e)
+-- of two checks that pass, each passes
+pub both-pass : (o p : Outcome) → orElse o p ≡ Passed → (o ≡ Passed) × (p ≡ Passed)
+both-pass Passed p e = (refl, e)
+both-pass (Refused r) p e = absurd (refused-not-passed r e)
 
-last-test : (b : Bool) (r : Refusal) → test b r ≡ Passed → b ≡ false
+-- a test that passes did not find its condition
+pub last-test : (b : Bool) (r : Refusal) → test b r ≡ Passed → b ≡ false
 last-test true r e = absurd (refused-not-passed r e)
 last-test false r e = refl
 
 pub head-passed : (bs : List ℕ) → headCheck bs ≡ Passed → Headed bs
 unfolding headCheck
 head-passed bs e =
-    let long = past-test _ _ _ e in
-    let marked = past-test _ _ _ (long .1) in
-    let right = past-test _ _ _ (marked .1) in
-    let few = past-test _ _ _ (right .1) in
+    let long = both-pass _ _ e in
+    let marked = both-pass _ _ (long .1) in
+    let right = both-pass _ _ (marked .1) in
+    let few = both-pass _ _ (right .1) in
     record {
-      long = ltb-false (length bs) headLength (long .0);
-      marked = mark-is bs .0 (not-false _ (marked .0));
-      right = eqb-true (versionIn bs) version (not-false _ (right .0));
-      few = ltb-false capacity (countIn bs) (few .0);
+      long = ltb-false (length bs) headLength (last-test _ _ (long .0));
+      marked = mark-is bs .0 (not-false _ (last-test _ _ (marked .0)));
+      right = eqb-true (versionIn bs) version (not-false _ (last-test _ _ (right .0)));
+      few = ltb-false capacity (countIn bs) (last-test _ _ (few .0));
       whole = eqb-true (length bs) (lengthOf (countIn bs)) (not-false _ (last-test _ _ (few .1)));
     }
 

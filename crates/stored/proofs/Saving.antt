@@ -25,12 +25,7 @@ use Rattle.stored.specs.declared.Saved.{Saved}
 use Rattle.stored.specs.declared.Saved.the-variants as saves
 use Rattle.stored.specs.Layout.{headLength, recordOf, headOf, bytesOf, lengthOf}
 use Rattle.stored.specs.Answer.{saveCheck, savedAfter, saved, savedIn}
-
--- the layout has its length
-pub layout-length : (es : List Entry) → length (bytesOf es) ≡ lengthOf (length es)
-unfolding bytesOf
-layout-length es =
-    length-append (headOf (length es)) (flatMap recordOf es) ∙ ap (λ (n : ℕ). headLength + n) (flat-length recordOf recordLength (λ e. refl) es)
+use Rattle.stored.proofs.Stores.{layout-length}
 
 module _ (row : List ℕ) (room : ℕ) (o : Outcome) (o-is : o ≡ checked row) where
   pub save-checked : (r : Refusal) → o ≡ Refused r → saves.Refused r ≡ saved row room

@@ -3,16 +3,17 @@
 -- Assumes nothing.
 use Prim.Native.Nat.{ℕ, suc, _+_, _≤_}
 use mathlib.Core.Path.{_≡_, refl, ap, _∙_}
-use mathlib.Core.List.{List, [], _∷_, _++_, append-assoc}
+use mathlib.Core.List.{List, [], _∷_, _++_, flatMap}
 use native.Mathlib.Omega.{arith}
-use lib.ListN.{length, set}
+use lib.ListN.{length, set, length-append}
 use Rattle.lent.specs.Lent.{over}
 use Rattle.lent.proofs.Over.{over-sets, over-then}
+use Rattle.lent.proofs.Records.{flat-length}
 use Rattle.fraction.specs.declared.Fraction.{Fraction}
 use Rattle.fraction.specs.Answer.{lowest}
 use Rattle.table.specs.declared.Entry.{Entry}
 use Rattle.table.specs.Row.{recordLength, lowestEntry}
-use Rattle.stored.specs.Layout.{mark, version, headLength, bytes16, bytes32, timeBytes, recordOf, headOf}
+use Rattle.stored.specs.Layout.{mark, version, headLength, bytes16, bytes32, timeBytes, recordOf, headOf, bytesOf, lengthOf}
 
 -- ---- Core laws
 
@@ -75,3 +76,9 @@ put-all l m n count h w₁ w₂ =
     let marked : m ≡ over l 0 (mark ++ bytes16 version) =
     w₁ ∙ over-then l _ mark (bytes16 version) 0 3 (omega arith) refl (over-sets l 0 mark (omega arith)) in
     w₂ ∙ over-then l m (mark ++ bytes16 version) (bytes16 count) 0 5 (omega arith) refl marked
+
+-- the layout has its length
+pub layout-length : (es : List Entry) → length (bytesOf es) ≡ lengthOf (length es)
+unfolding bytesOf
+layout-length es =
+    length-append (headOf (length es)) (flatMap recordOf es) ∙ ap (λ (n : ℕ). headLength + n) (flat-length recordOf recordLength (λ e. refl) es)

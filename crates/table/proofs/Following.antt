@@ -95,3 +95,13 @@ module _ (row : List ℕ) (passed : checked row ≡ Passed) where
   pub checked-length : length row ≤ longestRow
   unfolding None
   checked-length = not-above (λ l. checked-follows row .passed .0 passed .0 (inr l))
+
+  pub checked-whole : length row % numbers ≡ 0
+  unfolding None
+  checked-whole =
+      let none : length row % numbers ≤ 0 =
+      not-above
+      (λ l.
+      let ragged : numbers ∣ length row → ⊥ = λ d. omega (arith, mod-eq-zero-of-dvd numbers d) in
+      checked-follows row .passed .0 passed .0 (inl ragged)) in
+      omega arith

@@ -97,7 +97,7 @@ above-lowest-entry e q =
     let others = neither _ (eqb (e .duration .denominator) 0) .0 (neither (eqb (e .phase .denominator) 0) _ .0 q .1) in
     above-lowest (e .duration) (e .period) (others .1) (others .0)
 
-entry-lowest : (i : ℕ) (e : Entry) → entryCheck i (lowestEntry e) ≡ entryCheck i e
+pub entry-lowest : (i : ℕ) (e : Entry) → entryCheck i (lowestEntry e) ≡ entryCheck i e
 unfolding entryCheck
 entry-lowest i e =
     (λ k. threeTests i (no-denominator-lowest e k) (no-time-lowest e k) (above (lowest (e .duration)) (lowest (e .period)))) ∙ go (noDenominator e) refl
@@ -127,7 +127,7 @@ train-lowest tick e = rw (ticks-lowest (e .phase) tick, ticks-lowest (e .period)
 -- ---- The whole reading
 
 -- a check that does not see the terms finds the same
-first-lowest :
+pub first-lowest :
     (check : ℕ → Entry → Outcome) → ((i : ℕ) (e : Entry) → check i (lowestEntry e) ≡ check i e) → (i : ℕ) (es : List Entry) →
     firstRefusal check i (map lowestEntry es) ≡ firstRefusal check i es
 unfolding firstRefusal
