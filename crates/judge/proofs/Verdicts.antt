@@ -4,7 +4,7 @@
 use Prim.Native.Nat.{ℕ, zero, suc, _+_, _-_, _<_}
 use mathlib.Core.Path.{_≡_, refl, sym, ap, subst, fun-ext, _∙_}
 use mathlib.Core.Bool.{Bool, true, false}
-use mathlib.Core.Logic.{inl, ⊎-elim}
+use mathlib.Core.Logic.{_↔_, inl, ⊎-elim}
 use mathlib.Core.List.{List, [], _∷_, _++_}
 use native.Mathlib.Nat.{add-zero, add-assoc}
 use native.Mathlib.Omega.{arith}
@@ -54,6 +54,23 @@ module _ (row : List ℕ) where
       found (multiple (entries row)) (trainAt (trains row)) (scan (trainAt (trains row)) (pairs (length (trains row))) 0) ≡ verdict row
   unfolding verdict
   verdict-found e = sym (ap (λ (o : Outcome). judged o (multiple (entries row)) (trains row)) e)
+
+-- what was found is no refusal
+found-not-refused : (L : ℕ) (train : ℕ → Train) (f : Found) (r : Refusal) → found L train f ≡ v.Refused r → ⊥
+found-not-refused L train (Free d) r e = let z : _≡_ {A = ℕ} 0 1 = cc in omega arith
+found-not-refused L train (Meets i j d) r e = let z : _≡_ {A = ℕ} 0 1 = cc in omega arith
+
+-- the verdict is a refusal just where the table is refused
+pub verdict-refuses : (row : List ℕ) (r : Refusal) → (verdict row ≡ v.Refused r) ↔ (refusal row ≡ Refused r)
+unfolding verdict
+verdict-refuses row r = (there (refusal row) refl, λ e. sym (verdict-refused row r e))
+  where
+    whole : Found
+    whole = scan (trainAt (trains row)) (pairs (length (trains row))) 0
+
+    there : (o : Outcome) → refusal row ≡ o → verdict row ≡ v.Refused r → refusal row ≡ Refused r
+    there Passed q e = absurd (found-not-refused (multiple (entries row)) (trainAt (trains row)) whole r (verdict-found row q ∙ e))
+    there (Refused s) q e = q ∙ (let same : v.Refused s ≡ v.Refused r = verdict-refused row s q ∙ e in cc)
 
 -- ---- What the walk has found
 

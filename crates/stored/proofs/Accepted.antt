@@ -7,7 +7,8 @@ use mathlib.Core.Bool.{Bool, true, false}
 use mathlib.Core.Logic.{_↔_}
 use mathlib.Core.List.{List, [], _∷_}
 use native.Mathlib.Omega.{arith}
-use lib.ListN.{length, getD, drop}
+use lib.ListN.{length, getD, take, drop}
+use lib.Seq.{take-at}
 use borrow.Author.Tests.{ltb-false}
 use Rattle.refusal.specs.declared.Refusal.{Refusal}
 use Rattle.refusal.specs.declared.Refusal.the-variants.{BufferTooShort}
@@ -26,7 +27,7 @@ use Rattle.stored.specs.declared.Loaded.{Loaded}
 use Rattle.stored.specs.declared.Loaded.the-variants as loads
 use Rattle.stored.specs.Layout.{headLength, bytesOf, lengthOf, Bytes, InLowestTerms, StoredAs}
 use Rattle.stored.specs.Found.{versionIn, countIn, trainsIn}
-use Rattle.stored.specs.Answer.{hasMark, headCheck, timeCheck, storedCheck, loadCheck, loadedAfter, loaded}
+use Rattle.stored.specs.Answer.{hasMark, headCheck, timeCheck, storedCheck, loadCheck, loadedAfter, loaded, loadedIn}
 use Rattle.stored.proofs.Ways.{time-passes, head-passes}
 use Rattle.stored.proofs.Walk.{records-length}
 use Rattle.stored.proofs.Following.{mark-is, time-passed, loaded-count}
@@ -115,6 +116,14 @@ accepted bs room k e =
     let rest = both-pass (firstRefusal storedCheck 0 (trainsIn bs)) _ (head .1) in
     let room-for = ltb-false room (countIn bs * numbers) (last-test _ BufferTooShort (rest .1)) in
     record { headed = head-passed bs (head .0); trains = rest .0; fits = omega (arith, answer .1, room-for); count = answer .1 }
+
+-- what was loaded is the trains of the file, as a row
+pub accepted-row :
+    (bs before : List ℕ) (room k : ℕ) → Accepted bs room k → take (k * numbers) (loadedIn (loads.Count k) bs before) ≡ rowOf (trainsIn bs)
+unfolding loadedIn
+accepted-row bs before room k a =
+    let count : length (trainsIn bs) ≡ k = records-length recordLength (countIn bs) (drop headLength bs) ∙ a .count in
+    take-at (rowOf (trainsIn bs)) (drop (k * numbers) before) (k * numbers) (row-length (trainsIn bs) ∙ ap (λ (n : ℕ). n * numbers) count)
 
 pub accepted-stored : (bs : List ℕ) (room k : ℕ) → Bytes bs → Accepted bs room k → StoredAs bs (trainsIn bs) × (length (trainsIn bs) ≡ k)
 accepted-stored bs room k bytes a =

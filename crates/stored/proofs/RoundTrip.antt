@@ -32,7 +32,7 @@ use Rattle.stored.proofs.Loading.{last-test, both-pass}
 use Rattle.stored.proofs.Stores.{layout-length}
 use Rattle.stored.proofs.Saving.{save-answers}
 use Rattle.stored.proofs.Again.{layout-read}
-use Rattle.stored.proofs.Accepted.{accepted, accepted-stored, row-checked, stored-loads}
+use Rattle.stored.proofs.Accepted.{accepted, accepted-row, accepted-stored, row-checked, stored-loads}
 
 -- ---- Saving, and then loading
 
@@ -86,24 +86,31 @@ module _ (row : List ℕ) (passes : checked row ≡ Passed) where
         passes = reduced-checked;
       }
 
+-- the bytes that were written are the layout of the trains in lowest terms
+pub saved-file :
+    (row out : List ℕ) (n : ℕ) → saved row (length out) ≡ saves.Length n →
+    StoredAs (take n (savedIn (saves.Length n) row out)) (map lowestEntry (entries row))
+unfolding savedIn reduced
+saved-file row out n e =
+    let w = written row (length out) n e in
+    let es : List Entry = map lowestEntry (entries row) in
+    let file : take n (bytesOf es ++ drop n out) ≡ bytesOf es =
+    take-at (bytesOf es) (drop n out) n (layout-length es ∙ ap lengthOf (reduced-count row (w .passes)) ∙ sym (w .count)) in
+    subst (λ (l : List ℕ). StoredAs l es) (sym file) (saved-stored row (w .passes))
+
 pub load-after-save :
     (row out before : List ℕ) (n : ℕ) →
     saved row (length out) ≡ saves.Length n → length (entries row) * numbers ≤ length before →
     (loaded (take n (savedIn (saves.Length n) row out)) (length before) ≡ loads.Count (length (entries row)))
     × (loadedIn (loads.Count (length (entries row))) (take n (savedIn (saves.Length n) row out)) before
     ≡ lowestRow row ++ drop (length (entries row) * numbers) before)
-unfolding savedIn loadedIn reduced
+unfolding loadedIn
 load-after-save row out before n e room =
-    let w = written row (length out) n e in
+    let stored = saved-file row out n e in
     let es : List Entry = map lowestEntry (entries row) in
-    let count = reduced-count row (w .passes) in
-    let file : take n (bytesOf es ++ drop n out) ≡ bytesOf es =
-    take-at (bytesOf es) (drop n out) n (layout-length es ∙ ap lengthOf count ∙ sym (w .count)) in (
-      ap (λ (l : List ℕ). loaded l (length before)) file
-          ∙ stored-loads (bytesOf es) es (length before) (saved-stored row (w .passes)) (omega (arith, count))
-          ∙ ap loads.Count count,
-      ap (λ (l : List ℕ). rowOf (trainsIn l) ++ drop (length (entries row) * numbers) before) file
-          ∙ ap (λ (fs : List Entry). rowOf fs ++ drop (length (entries row) * numbers) before) (layout-read es),
+    let count = length-map (entries row) lowestEntry in (
+      stored-loads (take n (savedIn (saves.Length n) row out)) es (length before) stored (omega (arith, count)) ∙ ap loads.Count count,
+      ap (λ (fs : List Entry). rowOf fs ++ drop (length (entries row) * numbers) before) (ap trainsIn (stored .layout) ∙ layout-read es),
     )
 
 pub saved-same : (row : List ℕ) (room n : ℕ) → saved row room ≡ saves.Length n → SameRow row (lowestRow row)
@@ -134,13 +141,12 @@ pub save-after-load :
     loaded bs (length before) ≡ loads.Count k → length bs ≤ length out →
     (saved (take (k * numbers) (loadedIn (loads.Count k) bs before)) (length out) ≡ saves.Length (length bs))
     × (savedIn (saves.Length (length bs)) (take (k * numbers) (loadedIn (loads.Count k) bs before)) out ≡ bs ++ drop (length bs) out)
-unfolding loadedIn savedIn
+unfolding savedIn
 save-after-load bs before out k bytes e fits =
-    let found = accepted-stored bs (length before) k bytes (accepted bs (length before) k e) in
+    let a = accepted bs (length before) k e in
     let es : List Entry = trainsIn bs in
-    let stored = found .0 in
-    let row : take (k * numbers) (rowOf es ++ drop (k * numbers) before) ≡ rowOf es =
-    take-at (rowOf es) (drop (k * numbers) before) (k * numbers) (row-length es ∙ ap (λ (n : ℕ). n * numbers) (found .1)) in
+    let stored = accepted-stored bs (length before) k bytes a .0 in
+    let row = accepted-row bs before (length before) k a in
     let long : length bs ≡ lengthOf (length es) = ap length (stored .layout) ∙ layout-length es in
     let count : length (rowOf es) / numbers ≡ length es = omega (arith, row-length es) in
     let same : map lowestEntry (entries (rowOf es)) ≡ es = ap (map lowestEntry) (row-entries es) ∙ all-already es (stored .lowest) in (
