@@ -20,9 +20,8 @@ use Rattle.line.specs.Text.{Within}
 use Rattle.line.specs.Answer.{decimal, space, numbers, acceptWord, collideWord, refuseWord, line, lineOf, longest, answerFor, bufferAfter, written, writtenIn}
 use Rattle.lent.specs.Lent.{over}
 use Rattle.line.specs.Writing.{Wrote}
-use Rattle.lent.proofs.Over.{over-front}
+use Rattle.lent.proofs.Over.{over-then, over-front}
 use Rattle.line.proofs.Notation.{decimal-u64, decimal-u32}
-use Rattle.line.proofs.Stores.{over-then}
 
 -- ---- How long
 

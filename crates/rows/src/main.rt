@@ -3,28 +3,9 @@
 // Nothing is decided here, so nothing is promised but that it ends safely.
 ghost use Prim.Native.Nat.{_*_, _≤_};
 ghost use lib.ListN.{length};
-use line::Written;
 
 // More numbers than a table takes, so that rows which are too long are judged too.
 const LONGEST: usize = 400;
-
-// Prints the line that stands at the start of `text`. The length is tested here, so that nothing is asked of whoever
-// counted it.
-fn print(text: &[u8], length: usize) {
-    if length <= text.len() {
-        io::write_all(1, &text[..length]);
-    }
-}
-
-fn show(row: &[u32]) {
-    let mut text = [0u8; Written::LONGEST];
-    let written = line::write(judge::judge(row), &mut text);
-    match written {
-        Written::Length(length) => print(&text, length),
-        // the buffer is too short for no line
-        Written::Refused(_) => {}
-    }
-}
 
 // A number from its bytes.
 fn number(first: u8, second: u8, third: u8, fourth: u8) -> u32 {
@@ -58,7 +39,7 @@ fn judge_row(bytes: &mut [u8], row: &mut [u32]) -> bool
         return false;
     }
     fill(bytes, row);
-    show(row);
+    show::show(judge::judge(row));
     true
 }
 

@@ -3,8 +3,8 @@
 use mathlib.Core.Path.{sym}
 use lib.Seq.{length-take-le}
 use borrow.Author.Needs.{needs}
-use Rattle.sheet.proofs.print.Statement.{statement}
-use Rattle.sheet.proofs.print.Tie as tie
+use Rattle.show.proofs.print.Statement.{statement}
+use Rattle.show.proofs.print.Tie as tie
 
 slice-aggregate-write-all : tie.Need-slice-aggregate-write-all
 slice-aggregate-write-all c =
