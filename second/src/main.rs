@@ -1,11 +1,14 @@
 //! The second program: the paper's answers by other means than the proved crates, to compare with what they print.
 //! It shares no code with the crates and uses none. Its usage text says what each command writes.
 
+mod damaged;
 mod divisors;
 mod draw;
+mod files;
 mod ground;
 mod rows;
 mod sheet;
+mod stored;
 mod tables;
 mod trains;
 
@@ -21,10 +24,41 @@ usage: second ground             what the program `ground` has to print
        second lines SEED CASES   the lines of the same rows
        second tally SEED CASES   how many of those lines there are of each kind
        second row SEED CASE      one of those rows as numbers, the first being case 0
+       second files SEED CASES   saves and loads drawn from the seed, for the program `files`: for each the
+                                 letter S or L, the room and the length in two bytes each, and then the
+                                 numbers in four or the bytes, most significant byte first
+       second answers SEED CASES
+                                 what the program `files` has to write for them
+       second file-tally SEED CASES
+                                 how many of those answers there are of each kind
+       second file-case SEED CASE
+                                 one of those saves and loads, and its answer
+       second damaged PROGRAM FILE..
+                                 compares what the program `verdict`, which is at PROGRAM, prints for each
+                                 stored table, for every beginning of it, and for it with other bytes
 ";
 
 const BEGINNINGS: [&str; 8] =
     ["accept ", "collide ", "refuse 1 ", "refuse 2 ", "refuse 3 ", "refuse 4 ", "refuse 5 ", "refuse 6 "];
+
+const OUTCOMES: [&str; 16] = [
+    "save done ",
+    "save refuse 1 ",
+    "save refuse 2 ",
+    "save refuse 3 ",
+    "save refuse 4 ",
+    "save refuse 8 ",
+    "load done ",
+    "load refuse 1 ",
+    "load refuse 2 ",
+    "load refuse 3 ",
+    "load refuse 4 ",
+    "load refuse 8 ",
+    "load refuse 9 ",
+    "load refuse 10 ",
+    "load refuse 11 ",
+    "load refuse 12 ",
+];
 
 fn main() -> ExitCode {
     let words: Vec<String> = std::env::args().skip(1).collect();
@@ -51,31 +85,47 @@ fn run(words: &[&str], out: &mut impl Write) -> Option<Result<()>> {
         ["ground"] => Some(out.write_all(ground::expected().as_bytes())),
         ["sheet"] => Some(sheet::rows().try_for_each(|row| out.write_all(tables::line(&row).as_bytes()))),
         ["sheet-rows"] => Some(sheet::rows().try_for_each(|row| out.write_all(&rows::bytes(&row)))),
-        [command, seed, cases] => drawn(command, seed.parse().ok()?, cases.parse().ok()?, out),
+        ["damaged", program, files @ ..] if !files.is_empty() => {
+            Some(damaged::compare(program, files).and_then(|said| out.write_all(said.as_bytes())))
+        }
+        [command, seed, number] => {
+            let (seed, number) = (seed.parse().ok()?, number.parse().ok()?);
+            drawn_rows(command, seed, number, out).or_else(|| drawn_files(command, seed, number, out))
+        }
         _ => None,
     }
 }
 
 /// Writes what a command asks for of the rows that are drawn; the last number is a count of rows, or the one row's.
-fn drawn(command: &str, seed: u64, number: u64, out: &mut impl Write) -> Option<Result<()>> {
+fn drawn_rows(command: &str, seed: u64, number: u64, out: &mut impl Write) -> Option<Result<()>> {
     let mut rows = (0..number).map(|case| rows::row(seed, case));
     match command {
         "rows" => Some(rows.try_for_each(|row| out.write_all(&rows::bytes(&row)))),
         "lines" => Some(rows.try_for_each(|row| out.write_all(tables::line(&row).as_bytes()))),
-        "tally" => Some(tally(rows, out)),
+        "tally" => Some(tally(&BEGINNINGS, rows.map(|row| tables::line(&row)), out)),
         "row" => Some(writeln!(out, "{:?}", rows::row(seed, number))),
         _ => None,
     }
 }
 
-/// How many lines begin with each of the words that a line can begin with.
-fn tally(rows: impl Iterator<Item = Vec<u32>>, out: &mut impl Write) -> Result<()> {
-    let mut counts = BEGINNINGS.map(|beginning| (beginning, 0));
-    for row in rows {
-        let line = tables::line(&row);
-        for (_, count) in counts.iter_mut().filter(|(beginning, _)| line.starts_with(beginning)) {
-            *count += 1;
-        }
+/// The same for the saves and loads that are drawn.
+fn drawn_files(command: &str, seed: u64, number: u64, out: &mut impl Write) -> Option<Result<()>> {
+    let mut cases = (0..number).map(|case| files::case(seed, case));
+    match command {
+        "files" => Some(cases.try_for_each(|case| out.write_all(&case.bytes()))),
+        "answers" => Some(cases.try_for_each(|case| out.write_all(&case.answer()))),
+        "file-tally" => Some(tally(&OUTCOMES, cases.map(|case| case.outcome()), out)),
+        "file-case" => Some(writeln!(out, "{}", files::case(seed, number))),
+        _ => None,
     }
-    counts.iter().try_for_each(|(beginning, count)| writeln!(out, "{beginning}{count}"))
+}
+
+/// How many lines begin with each of the words that a line can begin with.
+fn tally(beginnings: &[&str], lines: impl Iterator<Item = String>, out: &mut impl Write) -> Result<()> {
+    let mut counts = vec![0; beginnings.len()];
+    for line in lines {
+        let beginning = beginnings.iter().position(|beginning| line.starts_with(beginning));
+        counts[beginning.expect("no other line is printed")] += 1;
+    }
+    beginnings.iter().zip(counts).try_for_each(|(beginning, count)| writeln!(out, "{beginning}{count}"))
 }

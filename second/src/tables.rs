@@ -7,12 +7,12 @@ use crate::trains::{earliest, free, Train};
 use std::collections::BTreeMap;
 use std::fmt;
 
-const NUMBERS_A_TRAIN: usize = 6;
-const MOST_NUMBERS: usize = 384;
+pub const NUMBERS_A_TRAIN: usize = 6;
+pub const MOST_NUMBERS: usize = 384;
 const MOST_MULTIPLE: u32 = 1_000_000;
 const MOST_TICKS: i128 = 10_000_000;
 const MOST_DIVISIONS_A_PAIR: u128 = 33;
-const NO_TRAIN: usize = 64;
+pub const NO_TRAIN: usize = 64;
 
 /// A table that repeats itself within so many ticks is walked tick by tick as well.
 const WALKED_TICKS: i128 = 2_000;
@@ -71,18 +71,18 @@ fn verdict(row: &[u32]) -> Verdict {
 }
 
 /// A time as it stands in the row.
-#[derive(Clone, Copy)]
-struct Time {
-    numerator: u32,
-    denominator: u32,
+#[derive(Clone, Copy, PartialEq)]
+pub struct Time {
+    pub numerator: u32,
+    pub denominator: u32,
 }
 
-fn times(numbers: &[u32]) -> [Time; 3] {
+pub fn times(numbers: &[u32]) -> [Time; 3] {
     [0, 2, 4].map(|at| Time { numerator: numbers[at], denominator: numbers[at + 1] })
 }
 
 /// The first refusal of a train by itself.
-fn fault(train: &[Time; 3]) -> Option<u32> {
+pub fn fault(train: &[Time; 3]) -> Option<u32> {
     let [_, period, duration] = train;
     if train.iter().any(|time| time.denominator == 0) {
         Some(2)
@@ -111,7 +111,7 @@ fn above(a: Time, b: Time) -> bool {
 }
 
 /// The fraction in lowest terms: the last convergent of its continued fraction, which no division reduces.
-fn lowest(time: Time) -> Time {
+pub fn lowest(time: Time) -> Time {
     let (mut n, mut m) = (time.numerator, time.denominator);
     let (mut before, mut last) = ((0u64, 1u64), (1u64, 0u64));
     while m != 0 {

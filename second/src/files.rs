@@ -1,0 +1,437 @@
+//! Saves and loads drawn from a seed, how they are handed to the program `files`, and what it has to write for each.
+//! Each kind is aimed at a place of the paper where a program is likely to go wrong. What a call deserves is not
+//! settled here, but in `stored`.
+
+use crate::draw::Draw;
+use crate::rows;
+use crate::stored::{load, packed, save, Refused, BYTES_A_TRAIN, HEAD};
+use crate::tables::{lowest, Time, MOST_NUMBERS, NUMBERS_A_TRAIN};
+use std::fmt;
+
+/// The longest file and the most bytes that are lent, beyond the 1,543 of the longest good file.
+const LONGEST_FILE: usize = 1_600;
+
+/// The most numbers that are lent, beyond the 384 that a table takes.
+const LONGEST_ROW: usize = 400;
+
+/// What each byte of the lent memory is before the call.
+const PATTERN: u8 = 0xA5;
+
+const LARGEST: u64 = u32::MAX as u64;
+
+/// A call, and the length of the memory that is lent to it for its result.
+pub enum Case {
+    Save { row: Vec<u32>, room: usize },
+    Load { file: Vec<u8>, room: usize },
+}
+
+/// The kinds of rows that are saved, of which the first has many kinds itself. They and the kinds of files come round
+/// in turn.
+const SAVED: [fn(&mut Draw) -> Vec<u32>; 5] =
+    [any_row, any_row, row_at_the_limit, row_of_small_numbers, large_fractions];
+
+/// The kinds of files that are loaded.
+const LOADED: [fn(&mut Draw) -> Vec<u8>; 18] = [
+    undamaged,
+    truncated,
+    lengthened,
+    one_byte,
+    two_bytes,
+    one_bit,
+    wrong_head,
+    fitted,
+    not_lowest,
+    no_denominator,
+    no_time,
+    too_long,
+    harmed_train,
+    harmed_trains,
+    behind_a_head,
+    small_numbers,
+    at_the_limit,
+    short,
+];
+
+/// A case: its kind by its number, the rest by the seed.
+pub fn case(seed: u64, number: u64) -> Case {
+    let draw = &mut Draw::new(seed, number);
+    let kind = (number % (SAVED.len() + LOADED.len()) as u64) as usize;
+    if kind < SAVED.len() {
+        let row = SAVED[kind](draw);
+        let needed = HEAD + row.len() / NUMBERS_A_TRAIN * BYTES_A_TRAIN;
+        Case::Save { row, room: room(draw, needed, LONGEST_FILE) }
+    } else {
+        let file = LOADED[kind - SAVED.len()](draw);
+        let needed = file.len().saturating_sub(HEAD) / BYTES_A_TRAIN * NUMBERS_A_TRAIN;
+        Case::Load { file, room: room(draw, needed, LONGEST_ROW) }
+    }
+}
+
+/// A room for what is needed: none, too little by one, just enough, more than enough, or any.
+fn room(draw: &mut Draw, needed: usize, most: usize) -> usize {
+    let any = draw.between(0, most as u64) as usize;
+    let more = needed + draw.between(1, 30) as usize;
+    draw.of(&[0, needed.saturating_sub(1), needed, needed, more, more, more, any]).min(most)
+}
+
+impl Case {
+    /// The call as bytes: a letter, the room and the length in two bytes each, and what is saved or loaded; most
+    /// significant byte first.
+    pub fn bytes(&self) -> Vec<u8> {
+        let (letter, room, length, content) = match self {
+            Case::Save { row, room } => (b'S', room, row.len(), in_bytes(row)),
+            Case::Load { file, room } => (b'L', room, file.len(), file.clone()),
+        };
+        let mut bytes = vec![letter];
+        bytes.extend((*room as u16).to_be_bytes());
+        bytes.extend((length as u16).to_be_bytes());
+        bytes.extend(content);
+        bytes
+    }
+
+    /// What the call answers, which is a length or a count, and what it writes; or its refusal.
+    fn answered(&self) -> Result<(usize, Vec<u8>), Refused> {
+        match self {
+            Case::Save { row, room } => saved(row, *room),
+            Case::Load { file, room } => loaded(file, *room),
+        }
+    }
+
+    /// What the program `files` has to write: 0, the length or the count, and 0; or 1, the refusal's number, and its
+    /// train; and then the whole of the lent memory.
+    pub fn answer(&self) -> Vec<u8> {
+        let mut memory = match self {
+            Case::Save { room, .. } => vec![PATTERN; *room],
+            Case::Load { room, .. } => vec![PATTERN; 4 * room],
+        };
+        let (status, first, second) = match self.answered() {
+            Ok((answered, written)) => {
+                memory[..written.len()].copy_from_slice(&written);
+                (0, answered, 0)
+            }
+            Err((number, train)) => (1, number as usize, train),
+        };
+        let mut bytes = vec![status];
+        bytes.extend((first as u16).to_be_bytes());
+        bytes.extend((second as u16).to_be_bytes());
+        bytes.extend(memory);
+        bytes
+    }
+
+    /// The answer as a line.
+    pub fn outcome(&self) -> String {
+        let name = match self {
+            Case::Save { .. } => "save",
+            Case::Load { .. } => "load",
+        };
+        match self.answered() {
+            Ok((answered, _)) => format!("{name} done {answered}"),
+            Err((number, train)) => format!("{name} refuse {number} {train}"),
+        }
+    }
+}
+
+impl fmt::Display for Case {
+    fn fmt(&self, out: &mut fmt::Formatter) -> fmt::Result {
+        match self {
+            Case::Save { row, room } => writeln!(out, "room for {room} bytes; row {row:?}")?,
+            Case::Load { file, room } => writeln!(out, "room for {room} numbers; file {}", hex(file))?,
+        }
+        write!(out, "{}; written {}", self.outcome(), hex(&self.answer()))
+    }
+}
+
+pub fn hex(bytes: &[u8]) -> String {
+    let digits: Vec<String> = bytes.iter().map(|byte| format!("{byte:02x}")).collect();
+    digits.join(" ")
+}
+
+fn in_bytes(numbers: &[u32]) -> Vec<u8> {
+    numbers.iter().flat_map(|number| number.to_be_bytes()).collect()
+}
+
+/// The numerator of one fraction times the denominator of another, by which two of them are compared.
+fn crossed(a: &[u32], b: &[u32]) -> u64 {
+    u64::from(a[0]) * u64::from(b[1])
+}
+
+/// What saving answers and writes. A saved table, once loaded, is of the same fractions; saved again, it is the same
+/// file.
+fn saved(row: &[u32], room: usize) -> Result<(usize, Vec<u8>), Refused> {
+    let file = save(row, room)?;
+    let again = load(&file, MOST_NUMBERS).expect("a saved table can be loaded");
+    for (before, after) in row.chunks(2).zip(again.chunks(2)) {
+        assert_eq!(crossed(before, after), crossed(after, before), "the second program saves another fraction");
+    }
+    assert_eq!(save(&again, file.len()).as_ref(), Ok(&file), "the second program saves the same table in two ways");
+    Ok((file.len(), file))
+}
+
+/// What loading answers and writes. A good file is the one that its own table is saved as.
+fn loaded(file: &[u8], room: usize) -> Result<(usize, Vec<u8>), Refused> {
+    let row = load(file, room)?;
+    assert_eq!(save(&row, file.len()).as_deref(), Ok(file), "the second program loads what it would not save");
+    Ok((row.len() / NUMBERS_A_TRAIN, in_bytes(&row)))
+}
+
+// ---- rows to be saved
+
+/// A row of any kind that is drawn for verdicts.
+fn any_row(draw: &mut Draw) -> Vec<u32> {
+    rows::row(draw.between(0, LARGEST), draw.between(0, LARGEST))
+}
+
+/// Good trains, as many as a table takes or nearly so, and now and then not a whole number of them.
+fn row_at_the_limit(draw: &mut Draw) -> Vec<u32> {
+    let length = draw.of(&[378, 383, 384, 384, 384, 385, 390, LONGEST_ROW]);
+    lowest_row(draw).into_iter().cycle().take(length).collect()
+}
+
+/// Numbers so small that every fault is met beside every other.
+fn row_of_small_numbers(draw: &mut Draw) -> Vec<u32> {
+    let length = if draw.once_in(8) { draw.between(0, 20) } else { draw.of(&[6, 12, 18]) };
+    (0..length).map(|_| draw.of(&[0, 1, 1, 1, 2, 2, 2, 3, 3, 4, 4, 6])).collect()
+}
+
+/// Times over large denominators, of which each byte counts, with or without a factor to be reduced.
+fn large_fractions(draw: &mut Draw) -> Vec<u32> {
+    let mut row = Vec::new();
+    for _ in 0..draw.between(1, 4) {
+        let mut times = [0; 3].map(|_| {
+            let factor = draw.of(&[1, 1, 2, 6, 255, 256, 65_537, 1 << 20]);
+            [0; 2].map(|_| (factor * draw.between(1, LARGEST / factor)) as u32)
+        });
+        // the longer of the last two is mostly the period
+        if crossed(&times[2], &times[1]) > crossed(&times[1], &times[2]) && !draw.once_in(8) {
+            times.swap(1, 2);
+        }
+        row.extend(times.concat());
+    }
+    row
+}
+
+// ---- good files
+
+/// Trains that can be stored just as they are, at least one.
+fn lowest_row(draw: &mut Draw) -> Vec<u32> {
+    loop {
+        let row = if draw.once_in(4) { large_fractions(draw) } else { any_row(draw) };
+        match save(&row, LONGEST_FILE).and_then(|file| load(&file, LONGEST_ROW)) {
+            Ok(row) if !row.is_empty() => return row,
+            _ => continue,
+        }
+    }
+}
+
+/// A good file with at least one train.
+fn good(draw: &mut Draw) -> Vec<u8> {
+    packed(&lowest_row(draw))
+}
+
+fn undamaged(draw: &mut Draw) -> Vec<u8> {
+    if draw.once_in(16) {
+        packed(&[])
+    } else {
+        good(draw)
+    }
+}
+
+/// As many trains as a table takes or more, in a file of the length that its count asks for.
+fn at_the_limit(draw: &mut Draw) -> Vec<u8> {
+    let count = draw.of(&[63, 64, 64, 64, 65, 66]);
+    let row = lowest_row(draw).into_iter().cycle().take(count * NUMBERS_A_TRAIN).collect::<Vec<_>>();
+    packed(&row)
+}
+
+// ---- files with damaged bytes
+
+/// A file that ends too soon: anywhere, by one byte, or by whole trains.
+fn truncated(draw: &mut Draw) -> Vec<u8> {
+    let mut file = good(draw);
+    let anywhere = draw.position(file.len());
+    let trains = draw.position((file.len() - HEAD) / BYTES_A_TRAIN);
+    let length = draw.of(&[anywhere, file.len() - 1, HEAD + trains * BYTES_A_TRAIN]);
+    file.truncate(length);
+    file
+}
+
+/// A file that goes on: by a byte, by a train, or by any bytes.
+fn lengthened(draw: &mut Draw) -> Vec<u8> {
+    let mut file = good(draw);
+    let any = draw.between(1, 50) as usize;
+    let more = draw.of(&[1, BYTES_A_TRAIN, any]);
+    let length = (file.len() + more).min(LONGEST_FILE);
+    file.resize_with(length, || any_byte(draw));
+    file
+}
+
+fn any_byte(draw: &mut Draw) -> u8 {
+    draw.between(0, 255) as u8
+}
+
+/// Another value for a byte: next to it, at an end, or any.
+fn change(draw: &mut Draw, byte: &mut u8) {
+    let any = any_byte(draw);
+    *byte = draw.of(&[byte.wrapping_add(1), byte.wrapping_sub(1), 0, 255, any]);
+}
+
+fn one_byte(draw: &mut Draw) -> Vec<u8> {
+    let mut file = good(draw);
+    let at = draw.position(file.len());
+    change(draw, &mut file[at]);
+    file
+}
+
+fn two_bytes(draw: &mut Draw) -> Vec<u8> {
+    let mut file = one_byte(draw);
+    let at = draw.position(file.len());
+    change(draw, &mut file[at]);
+    file
+}
+
+fn one_bit(draw: &mut Draw) -> Vec<u8> {
+    let mut file = good(draw);
+    let at = draw.position(file.len());
+    file[at] ^= 1 << draw.between(0, 7);
+    file
+}
+
+/// A wrong mark, version, count or length, or up to three of these, so that their order counts.
+fn wrong_head(draw: &mut Draw) -> Vec<u8> {
+    let mut file = good(draw);
+    let count = ((file.len() - HEAD) / BYTES_A_TRAIN) as u16;
+    // the last of them asks for the same length in 16 bits
+    let counts = [0, 1, count - 1, count + 1, count << 8, 64, 65, 256, u16::MAX, count + 8_192];
+    let mut length = file.len();
+    for _ in 0..draw.between(1, 3) {
+        match draw.between(0, 3) {
+            0 => file[draw.position(3)] = draw.of(b"STst\0\x54\xD4"),
+            1 => file[3..5].copy_from_slice(&draw.of(&[0u16, 2, 255, 256, 257, u16::MAX]).to_be_bytes()),
+            2 => file[5..HEAD].copy_from_slice(&draw.of(&counts).to_be_bytes()),
+            _ => length = draw.of(&[HEAD, length - 1, length + 1, length + BYTES_A_TRAIN]),
+        }
+    }
+    file.resize(length.min(LONGEST_FILE), 1);
+    file
+}
+
+/// Another count, with the length that it asks for.
+fn fitted(draw: &mut Draw) -> Vec<u8> {
+    let mut file = good(draw);
+    let count = draw.between(0, 9) as u16;
+    file[5..HEAD].copy_from_slice(&count.to_be_bytes());
+    let filling = draw.of(&[0, 1, 255]);
+    file.resize(HEAD + usize::from(count) * BYTES_A_TRAIN, filling);
+    file
+}
+
+// ---- files with faults in their trains
+
+/// Gives a train a fault that mostly deserves the refusal of that number, if no other comes before it.
+fn harm(draw: &mut Draw, train: &mut [u32], number: u32) {
+    match number {
+        2 => train[draw.of(&[1, 3, 5])] = 0,
+        // as 0/1, or as 0/m, which is not in lowest terms either
+        3 => {
+            let time = draw.of(&[2, 4]);
+            train[time] = 0;
+            train[time + 1] = draw.of(&[1, 1, train[time + 1]]);
+        }
+        4 => lengthen(draw, train),
+        _ => {
+            let time = draw.of(&[0, 2, 4]);
+            let most = LARGEST / u64::from(train[time].max(train[time + 1]).max(1));
+            let furthest = draw.of(&[2, 3, 60, LARGEST]);
+            let factor = draw.between(2.min(most), furthest.min(most)) as u32;
+            train[time] *= factor;
+            train[time + 1] *= factor;
+        }
+    }
+}
+
+/// Lets the duration be above the period by as little as can be: by one of its parts, or by so little that floats of
+/// 64 bits do not tell them apart.
+fn lengthen(draw: &mut Draw, train: &mut [u32]) {
+    if draw.once_in(3) {
+        let n = u32::MAX - draw.between(0, 1_000) as u32;
+        train[2..].copy_from_slice(&[n, n - 1, n - 1, n - 2]);
+    } else {
+        let duration = lowest(Time { numerator: train[2].saturating_add(1), denominator: train[3] });
+        train[4..].copy_from_slice(&[duration.numerator, duration.denominator]);
+    }
+}
+
+/// A file with some faults, in the one train or in any; the numbers are of the refusals that they mostly deserve.
+fn harmed(draw: &mut Draw, numbers: &[u32], is_one_train: bool) -> Vec<u8> {
+    let mut row = lowest_row(draw);
+    let trains = row.len() / NUMBERS_A_TRAIN;
+    let favourite = draw.position(trains);
+    for number in numbers {
+        let at = if is_one_train { favourite } else { draw.position(trains) };
+        harm(draw, &mut row[at * NUMBERS_A_TRAIN..][..NUMBERS_A_TRAIN], *number);
+    }
+    packed(&row)
+}
+
+fn not_lowest(draw: &mut Draw) -> Vec<u8> {
+    harmed(draw, &[12], true)
+}
+
+fn no_denominator(draw: &mut Draw) -> Vec<u8> {
+    harmed(draw, &[2], true)
+}
+
+fn no_time(draw: &mut Draw) -> Vec<u8> {
+    harmed(draw, &[3], true)
+}
+
+fn too_long(draw: &mut Draw) -> Vec<u8> {
+    harmed(draw, &[4], true)
+}
+
+/// Two to four of the faults, in any order.
+fn some_faults(draw: &mut Draw) -> Vec<u32> {
+    (0..draw.between(2, 4)).map(|_| draw.of(&[2, 3, 4, 12, 12])).collect()
+}
+
+fn harmed_train(draw: &mut Draw) -> Vec<u8> {
+    let numbers = some_faults(draw);
+    harmed(draw, &numbers, true)
+}
+
+fn harmed_trains(draw: &mut Draw) -> Vec<u8> {
+    let numbers = some_faults(draw);
+    harmed(draw, &numbers, false)
+}
+
+// ---- files of any numbers
+
+/// Any bytes behind a good head, or bytes that are mostly 0, so that the numbers are often small.
+fn behind_a_head(draw: &mut Draw) -> Vec<u8> {
+    let mut file = packed(&vec![0; NUMBERS_A_TRAIN * draw.between(1, 3) as usize]);
+    let is_sparse = draw.once_in(2);
+    for byte in &mut file[HEAD..] {
+        if !is_sparse || draw.once_in(4) {
+            *byte = any_byte(draw);
+        }
+    }
+    file
+}
+
+fn small_numbers(draw: &mut Draw) -> Vec<u8> {
+    let row = row_of_small_numbers(draw);
+    packed(&row)
+}
+
+/// Not more than eight bytes, mostly those of the smallest file.
+fn short(draw: &mut Draw) -> Vec<u8> {
+    let mut file = packed(&[]);
+    file.push(0);
+    file.truncate(draw.between(0, 8) as usize);
+    for byte in &mut file {
+        if draw.once_in(8) {
+            change(draw, byte);
+        }
+    }
+    file
+}
