@@ -19,6 +19,9 @@ const PATTERN: u8 = 0xA5;
 
 const LARGEST: u64 = u32::MAX as u64;
 
+/// More rows than are ever drawn until one can be saved, so that a wrong program does not go on for ever.
+const TRIES: usize = 1_000;
+
 /// A call, and the length of the memory that is lent to it for its result.
 pub enum Case {
     Save { row: Vec<u32>, room: usize },
@@ -214,13 +217,11 @@ fn large_fractions(draw: &mut Draw) -> Vec<u32> {
 
 /// Trains that can be stored just as they are, at least one.
 fn lowest_row(draw: &mut Draw) -> Vec<u32> {
-    loop {
+    let mut rows = (0..TRIES).filter_map(|_| {
         let row = if draw.once_in(4) { large_fractions(draw) } else { any_row(draw) };
-        match save(&row, LONGEST_FILE).and_then(|file| load(&file, LONGEST_ROW)) {
-            Ok(row) if !row.is_empty() => return row,
-            _ => continue,
-        }
-    }
+        load(&save(&row, LONGEST_FILE).ok()?, LONGEST_ROW).ok()
+    });
+    rows.find(|row| !row.is_empty()).expect("a table that can be saved is drawn soon")
 }
 
 /// A good file with at least one train.
