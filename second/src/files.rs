@@ -28,8 +28,8 @@ pub enum Case {
     Load { file: Vec<u8>, room: usize },
 }
 
-/// The kinds of rows that are saved, of which the first has many kinds itself. They and the kinds of files come round
-/// in turn.
+/// The kinds of rows that are saved; the first has many kinds itself, and comes twice. They and the kinds of files come
+/// round in turn.
 const SAVED: [fn(&mut Draw) -> Vec<u32>; 5] =
     [any_row, any_row, row_at_the_limit, row_of_small_numbers, large_fractions];
 
