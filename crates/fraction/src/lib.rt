@@ -66,10 +66,10 @@ impl Fraction {
     pub fn is_lowest(self) -> bool
         ensures { λ r. ⌜ r ≡ isLowest self ⌝ }
     {
-        if self.denominator == 0 {
-            return false;
+        if self.denominator != 0 {
+            return divisor_of(self.numerator, self.denominator) == 1;
         }
-        divisor_of(self.numerator, self.denominator) == 1
+        false
     }
 
     // Whether this fraction is above the other, by cross products.

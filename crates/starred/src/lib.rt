@@ -1,2 +1,2 @@
-// The starred rows of the paper's bench sheet, one list under one theorem. There is no code here: the rows and what the
-// paper prints for each stand in specs/Sheet.antt, and proofs/Promises.antt proves them of the definitions.
+// The starred rows of the paper's bench sheet, one list under one theorem, and the bytes of its 36/13 table. There is no code
+// here: the rows, the bytes and what is printed stand in specs/Sheet.antt, and proofs/Promises.antt proves them.
