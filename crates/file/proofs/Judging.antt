@@ -48,7 +48,8 @@ module _ (bs : List ℕ) (answer : Loaded) (answer-is : answer ≡ loaded bs lon
     count-fits = accepted bs longestRow k (sym answer-is ∙ count) .fits
 
     pub file-goes-on :
-        (before row : List ℕ) (v : Verdict) → row ≡ loadedIn answer bs before → v ≡ verdict (take (k * numbers - 0) row) → v ≡ fileVerdict bs
+        (before row : List ℕ) (v : Verdict) → row ≡ loadedIn answer bs before → v ≡ verdict (take (k * numbers - 0) row) →
+        v ≡ fileVerdict bs
     unfolding verdictAfter
     file-goes-on before row v row-is v-is =
         let whole : k * numbers - 0 ≡ k * numbers = omega arith in

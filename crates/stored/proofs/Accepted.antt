@@ -2,32 +2,30 @@
 -- Core: stored-passed, all-passed, all-pass. The rest follows from these.
 -- Assumes nothing.
 use Prim.Native.Nat.{ℕ, zero, suc, _*_, _%_, _<_, _≤_}
-use mathlib.Core.Path.{_≡_, refl, sym, ap, subst, _∙_}
-use mathlib.Core.Bool.{Bool, true, false}
+use mathlib.Core.Path.{_≡_, refl, sym, ap, _∙_}
+use mathlib.Core.Bool.{true}
 use mathlib.Core.Logic.{_↔_}
 use mathlib.Core.List.{List, [], _∷_}
 use native.Mathlib.Omega.{arith}
 use lib.ListN.{length, getD, take, drop}
 use lib.Seq.{take-at}
 use borrow.Author.Tests.{ltb-false}
-use Rattle.refusal.specs.declared.Refusal.{Refusal}
 use Rattle.refusal.specs.declared.Refusal.the-variants.{BufferTooShort}
 use Rattle.fraction.specs.declared.Fraction.{Fraction}
 use Rattle.fraction.specs.Value.{LowestTerms}
 use Rattle.fraction.proofs.Lowest.{is-lowest}
 use Rattle.table.specs.declared.Entry.{Entry}
 use Rattle.table.specs.declared.Outcome.{Outcome}
-use Rattle.table.specs.declared.Outcome.the-variants.{Passed, Refused}
-use Rattle.table.specs.Row.{capacity, numbers, recordLength, entries, noEntry, rowOf}
-use Rattle.table.specs.Answer.{test, orElse, firstRefusal, entryCheck, checked}
-use Rattle.table.proofs.Checks.{refused-not-passed, checked-trains}
+use Rattle.table.specs.declared.Outcome.the-variants.{Passed}
+use Rattle.table.specs.Row.{capacity, numbers, recordLength, noEntry, rowOf}
+use Rattle.table.specs.Answer.{orElse, firstRefusal, entryCheck, checked}
+use Rattle.table.proofs.Checks.{checked-trains}
 use Rattle.table.proofs.Following.{checked-length}
 use Rattle.table.proofs.Rows.{row-length, row-entries}
-use Rattle.stored.specs.declared.Loaded.{Loaded}
 use Rattle.stored.specs.declared.Loaded.the-variants as loads
 use Rattle.stored.specs.Layout.{headLength, bytesOf, lengthOf, Bytes, InLowestTerms, StoredAs}
 use Rattle.stored.specs.Found.{versionIn, countIn, trainsIn}
-use Rattle.stored.specs.Answer.{hasMark, headCheck, timeCheck, storedCheck, loadCheck, loadedAfter, loaded, loadedIn}
+use Rattle.stored.specs.Answer.{hasMark, headCheck, timeCheck, storedCheck, loadCheck, loaded, loadedIn}
 use Rattle.stored.proofs.Ways.{time-passes, head-passes}
 use Rattle.stored.proofs.Walk.{records-length}
 use Rattle.stored.proofs.Following.{mark-is, time-passed, loaded-count}
@@ -143,7 +141,8 @@ layout-head : (es : List Entry) → length es ≤ capacity → headCheck (bytesO
 layout-head es few =
     let bs : List ℕ = bytesOf es in
     sym
-    (head-passes bs (omega (arith, layout-length es)) (hasMark bs) refl (mark-is bs .1 (layout-mark es)) (versionIn bs) refl (layout-version es)
+    (head-passes bs (omega (arith, layout-length es)) (hasMark bs) refl (mark-is bs .1 (layout-mark es))
+    (versionIn bs) refl (layout-version es)
     (countIn bs) refl (omega (arith, layout-count es)) (layout-length es ∙ ap lengthOf (sym (layout-count es))))
 
 pub stored-loads :

@@ -99,7 +99,8 @@ module _ (bs : List ℕ) (bytes : Bytes bs) where
       ∙ ap (λ (n : ℕ). getD bs (at + 1) 0 ∷ drop n bs) e₁
       ∙ ap (λ (l : List ℕ). getD bs (at + 1) 0 ∷ l) third in
       ap (λ (l : List ℕ). l ++ drop (at + 4) bs)
-      (four-bytes (getD bs at 0) (getD bs (at + 1) 0) (getD bs (at + 2) 0) (getD bs (at + 3) 0) (bytes at) (bytes (at + 1)) (bytes (at + 2)) (bytes (at + 3)))
+      (four-bytes (getD bs at 0) (getD bs (at + 1) 0) (getD bs (at + 2) 0) (getD bs (at + 3) 0)
+      (bytes at) (bytes (at + 1)) (bytes (at + 2)) (bytes (at + 3)))
       ∙ sym (first-byte bs at (omega arith) ∙ ap (λ (l : List ℕ). getD bs at 0 ∷ l) second)
 
   record-written : recordLength ≤ length bs → recordOf (entryIn bs 0) ++ drop recordLength bs ≡ bs
@@ -126,7 +127,8 @@ records-written (suc count) bs bytes h =
     let e : recordLength + count * recordLength ≡ suc count * recordLength = omega arith in
     let more : List ℕ = flatMap recordOf (recordsIn recordLength count rest) in
     append-assoc (recordOf (entryIn bs 0)) more (drop (suc count * recordLength) bs)
-    ∙ ap (λ (l : List ℕ). recordOf (entryIn bs 0) ++ (more ++ l)) (ap (λ (n : ℕ). drop n bs) (sym e) ∙ sym (drop-drop (count * recordLength) recordLength bs))
+    ∙ ap (λ (l : List ℕ). recordOf (entryIn bs 0) ++ (more ++ l))
+    (ap (λ (n : ℕ). drop n bs) (sym e) ∙ sym (drop-drop (count * recordLength) recordLength bs))
     ∙ ap (λ (l : List ℕ). recordOf (entryIn bs 0) ++ l)
     (records-written count rest (bytes-behind recordLength bs bytes) (omega (arith, length-drop recordLength bs)))
     ∙ record-written bs bytes (omega arith)

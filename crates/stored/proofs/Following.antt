@@ -5,9 +5,8 @@ use Prim.Native.Nat.{ℕ, _*_, _<_}
 use mathlib.Core.Path.{_≡_, refl, sym, ap, subst, _∙_}
 use mathlib.Core.Bool.{Bool, true, false, not, false≢true, and-eq-true-iff}
 use mathlib.Core.Logic.{_↔_, Iff·trans}
-use mathlib.Core.List.{List, [], _∷_, _++_, map}
+use mathlib.Core.List.{List, [], _∷_, map}
 use native.Mathlib.Omega.{arith}
-use lib.Dec.{ltb, eqb}
 use lib.ListN.{length, getD, take, length-map}
 use lib.Seq.{getD-take}
 use borrow.Author.Tests.{eq-eqb, ne-eqb, eqb-true}
@@ -67,7 +66,11 @@ mark-is bs = (there, back)
     back : take 3 bs ≡ mark → hasMark bs ≡ true
     back e =
         let at : (k : ℕ) → k < 3 → getD bs k 0 ≡ getD mark k 0 = λ k h. sym (getD-take 3 bs k 0 h) ∙ ap (λ (l : List ℕ). getD l k 0) e in
-        simp (eq-eqb (getD bs 0 0) 83 (at 0 (omega arith)), eq-eqb (getD bs 1 0) 84 (at 1 (omega arith)), eq-eqb (getD bs 2 0) 84 (at 2 (omega arith)))
+        simp (
+          eq-eqb (getD bs 0 0) 83 (at 0 (omega arith)),
+          eq-eqb (getD bs 1 0) 84 (at 1 (omega arith)),
+          eq-eqb (getD bs 2 0) 84 (at 2 (omega arith)),
+        )
 
 pub head-follows : (bs : List ℕ) → Follows (headCheck bs) (headChecks bs)
 unfolding headCheck

@@ -65,37 +65,39 @@ head-passed bs e =
 -- ---- The ways through the call
 
 module _ (bs : List ℕ) (room : ℕ) (head : Outcome) (head-is : head ≡ headCheck bs) where
-  -- what is left when the head has passed
-  afterHead : Outcome
-  afterHead = orElse (firstRefusal storedCheck 0 (trainsIn bs)) (test (ltb room (countIn bs * numbers)) BufferTooShort)
+  -- the answer, from the outcome of the head's checks
+  abbrev fromHead : Outcome → Loaded
+  fromHead o =
+      loadedAfter
+      (orElse o (orElse (firstRefusal storedCheck 0 (trainsIn bs)) (test (ltb room (countIn bs * numbers)) BufferTooShort)))
+      (countIn bs)
 
-  from-head : loadedAfter (orElse head afterHead) (countIn bs) ≡ loaded bs room
-  unfolding loadCheck afterHead
-  from-head = ap (λ (o : Outcome). loadedAfter (orElse o afterHead) (countIn bs)) head-is
+  from-head : fromHead head ≡ loaded bs room
+  unfolding loadCheck
+  from-head = ap fromHead head-is
 
   pub load-head : (r : Refusal) → head ≡ Refused r → loads.Refused r ≡ loaded bs room
-  load-head r h = sym (ap (λ (o : Outcome). loadedAfter (orElse o afterHead) (countIn bs)) h) ∙ from-head
+  load-head r h = sym (ap fromHead h) ∙ from-head
 
   module _ (on : head ≡ Passed) (count : ℕ) (count-is : count ≡ countIn bs) (trains : Outcome)
       (trains-are : trains ≡ firstRefusal storedCheck 0 (recordsIn recordLength count (drop headLength bs))) where
-    from-trains :
-        loadedAfter (orElse trains (test (ltb room (count * numbers)) BufferTooShort)) count ≡ loaded bs room
-    unfolding afterHead
+    -- the answer, from the count and the outcome of the trains' checks
+    abbrev fromTrains : ℕ → Outcome → Loaded
+    fromTrains k o = loadedAfter (orElse o (test (ltb room (k * numbers)) BufferTooShort)) k
+
+    from-trains : fromTrains count trains ≡ loaded bs room
     from-trains =
-        ap (λ (o : Outcome). loadedAfter (orElse o (test (ltb room (count * numbers)) BufferTooShort)) count) trains-are
-        ∙ ap (λ (k : ℕ).
-        loadedAfter
-        (orElse (firstRefusal storedCheck 0 (recordsIn recordLength k (drop headLength bs))) (test (ltb room (k * numbers)) BufferTooShort)) k)
-        count-is
-        ∙ sym (ap (λ (o : Outcome). loadedAfter (orElse o afterHead) (countIn bs)) on)
+        ap (fromTrains count) trains-are
+        ∙ ap (λ (k : ℕ). fromTrains k (firstRefusal storedCheck 0 (recordsIn recordLength k (drop headLength bs)))) count-is
+        ∙ sym (ap fromHead on)
         ∙ from-head
 
     pub load-trains : (r : Refusal) → trains ≡ Refused r → loads.Refused r ≡ loaded bs room
-    load-trains r h = sym (ap (λ (o : Outcome). loadedAfter (orElse o (test (ltb room (count * numbers)) BufferTooShort)) count) h) ∙ from-trains
+    load-trains r h = sym (ap (fromTrains count) h) ∙ from-trains
 
     module _ (past : trains ≡ Passed) where
-      from-room : loadedAfter (test (ltb room (count * numbers)) BufferTooShort) count ≡ loaded bs room
-      from-room = sym (ap (λ (o : Outcome). loadedAfter (orElse o (test (ltb room (count * numbers)) BufferTooShort)) count) past) ∙ from-trains
+      from-room : fromTrains count Passed ≡ loaded bs room
+      from-room = sym (ap (fromTrains count) past) ∙ from-trains
 
       pub load-short : room < count * numbers → loads.Refused BufferTooShort ≡ loaded bs room
       load-short h = simp (lt-ltb room (count * numbers) h) at from-room

@@ -12,21 +12,19 @@ use borrow.Author.Tests.{ltb-false}
 use Rattle.refusal.specs.declared.Refusal.the-variants.{BufferTooShort}
 use Rattle.fraction.proofs.Lowest.{lowest-terms, lowest-already}
 use Rattle.table.specs.declared.Entry.{Entry}
-use Rattle.table.specs.declared.Outcome.{Outcome}
-use Rattle.table.specs.declared.Outcome.the-variants.{Passed, Refused}
-use Rattle.table.specs.Row.{capacity, numbers, recordLength, entries, noEntry, rowOf, lowestEntry, lowestRow, SameRow}
+use Rattle.table.specs.declared.Outcome.the-variants.{Passed}
+use Rattle.table.specs.Row.{numbers, entries, noEntry, rowOf, lowestEntry, lowestRow, SameRow}
 use Rattle.table.specs.Answer.{entryCheck, checked}
 use Rattle.table.proofs.Entries.{entries-few}
 use Rattle.table.proofs.Checks.{checked-trains}
 use Rattle.table.proofs.Following.{checked-length, checked-whole, checked-sound}
 use Rattle.table.proofs.Terms.{entry-lowest, first-lowest}
 use Rattle.table.proofs.Rows.{row-length, row-entries, lowest-at, lowest-row-same}
-use Rattle.stored.specs.declared.Saved.{Saved}
 use Rattle.stored.specs.declared.Saved.the-variants as saves
 use Rattle.stored.specs.declared.Loaded.the-variants as loads
 use Rattle.stored.specs.Layout.{bytesOf, lengthOf, longest, Bytes, InLowestTerms, StoredAs}
 use Rattle.stored.specs.Found.{trainsIn}
-use Rattle.stored.specs.Answer.{saveCheck, savedAfter, saved, savedIn, loaded, loadedIn}
+use Rattle.stored.specs.Answer.{saveCheck, saved, savedIn, loaded, loadedIn}
 use Rattle.stored.proofs.Following.{saved-length}
 use Rattle.stored.proofs.Loading.{last-test, both-pass}
 use Rattle.stored.proofs.Stores.{layout-length}

@@ -4,16 +4,14 @@
 use Prim.Native.Nat.{ℕ, _+_, _*_, _/_, _<_, _≤_}
 use mathlib.Core.Path.{_≡_, refl, sym, ap, _∙_}
 use mathlib.Core.List.{List, _++_, map, flatMap}
-use native.Mathlib.Nat.{div-mul-le-self}
 use native.Mathlib.Omega.{arith}
 use lib.Dec.{ltb}
-use lib.ListN.{length, drop, length-map, length-append}
+use lib.ListN.{length, length-map}
 use borrow.Author.Tests.{lt-ltb, le-ltb}
 use Rattle.refusal.specs.declared.Refusal.{Refusal}
 use Rattle.refusal.specs.declared.Refusal.the-variants.{BufferTooShort}
 use Rattle.lent.specs.Lent.{over}
 use Rattle.lent.proofs.Over.{over-then, over-front}
-use Rattle.lent.proofs.Records.{flat-length}
 use Rattle.table.specs.declared.Entry.{Entry}
 use Rattle.table.specs.declared.Outcome.{Outcome}
 use Rattle.table.specs.declared.Outcome.the-variants.{Passed, Refused}
@@ -28,21 +26,24 @@ use Rattle.stored.specs.Answer.{saveCheck, savedAfter, saved, savedIn}
 use Rattle.stored.proofs.Stores.{layout-length}
 
 module _ (row : List ℕ) (room : ℕ) (o : Outcome) (o-is : o ≡ checked row) where
-  pub save-checked : (r : Refusal) → o ≡ Refused r → saves.Refused r ≡ saved row room
+  -- the answer, from the outcome of the row's checks
+  abbrev answer : Outcome → Saved
+  answer p = savedAfter (orElse p (test (ltb room (lengthOf (length (entries row)))) BufferTooShort)) (lengthOf (length (entries row)))
+
+  from-checks : answer o ≡ saved row room
   unfolding saveCheck
-  save-checked r h =
-      sym (ap (λ (p : Outcome). savedAfter (orElse p (test (ltb room (lengthOf (length (entries row)))) BufferTooShort)) (lengthOf (length (entries row)))) (sym o-is ∙ h))
+  from-checks = ap answer o-is
+
+  pub save-checked : (r : Refusal) → o ≡ Refused r → saves.Refused r ≡ saved row room
+  save-checked r h = sym (ap answer h) ∙ from-checks
 
   module _ (passed : o ≡ Passed) where
     pub save-few : length row / numbers ≤ capacity
     save-few = omega (arith, entries-length row, entries-few row (checked-length row (sym o-is ∙ passed)))
 
     -- past the checks there is only the room to be looked at
-    room-left :
-        savedAfter (test (ltb room (lengthOf (length (entries row)))) BufferTooShort) (lengthOf (length (entries row))) ≡ saved row room
-    unfolding saveCheck
-    room-left =
-        sym (ap (λ (p : Outcome). savedAfter (orElse p (test (ltb room (lengthOf (length (entries row)))) BufferTooShort)) (lengthOf (length (entries row)))) (sym o-is ∙ passed))
+    room-left : answer Passed ≡ saved row room
+    room-left = sym (ap answer passed) ∙ from-checks
 
     pub save-short : room < headLength + length row / numbers * recordLength → saves.Refused BufferTooShort ≡ saved row room
     save-short h =

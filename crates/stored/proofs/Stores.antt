@@ -81,4 +81,5 @@ put-all l m n count h w₁ w₂ =
 pub layout-length : (es : List Entry) → length (bytesOf es) ≡ lengthOf (length es)
 unfolding bytesOf
 layout-length es =
-    length-append (headOf (length es)) (flatMap recordOf es) ∙ ap (λ (n : ℕ). headLength + n) (flat-length recordOf recordLength (λ e. refl) es)
+    length-append (headOf (length es)) (flatMap recordOf es)
+    ∙ ap (λ (n : ℕ). headLength + n) (flat-length recordOf recordLength (λ e. refl) es)

@@ -8,8 +8,6 @@ use native.Mathlib.Nat.{mul-le-mul-right, add-assoc, zero-mul}
 use native.Mathlib.Omega.{arith}
 use lib.ListN.{length, getD, drop}
 use lib.Seq.{getD-drop}
-use Rattle.fraction.specs.declared.Fraction.{Fraction}
-use Rattle.table.specs.declared.Entry.{Entry}
 use Rattle.table.specs.Row.{recordLength, noEntry}
 use Rattle.stored.specs.Layout.{headLength}
 use Rattle.stored.specs.Found.{number32, timeIn, entryIn, recordsIn}

@@ -11,7 +11,7 @@ ghost use mathlib.Core.List.{map, flatMap};
 ghost use lib.ListN.{length, drop};
 ghost use Rattle.fraction.specs.Answer.{lowest};
 ghost use Rattle.lent.specs.Lent.{over};
-ghost use Rattle.table.specs.Row.{capacity, numbers, recordLength, entries, numbersOf, rowOf, lowestEntry};
+ghost use Rattle.table.specs.Row.{numbers, recordLength, entries, numbersOf, rowOf, lowestEntry};
 ghost use Rattle.table.specs.Answer.{firstRefusal};
 ghost use Rattle.stored.specs.Layout.{headLength, bytes16, bytes32, timeBytes, recordOf, headOf, longest};
 ghost use Rattle.stored.specs.Found.{number16, number32, timeIn, entryIn, recordsIn};

@@ -6,7 +6,6 @@ use lib.ListN.{length}
 use borrow.Author.Needs.{needs}
 use Rattle.files.proofs.spread.Statement.{statement}
 use Rattle.files.proofs.spread.Tie as tie
-use Rattle.files.proofs.byte.Reads as byte-reads
 
 abbrev Inv-loop : tie.InvT-loop
 Inv-loop row bytes₀ at₀ bytes at = (at ≤ length bytes₀) × (length bytes₀ ≤ 4 * length row) × (length bytes ≡ length bytes₀)

@@ -23,7 +23,8 @@ cast-if3 c = search needs
 
 returns-3 : tie.Need-returns-3
 returns-3 c =
-    head-version _ (c .before .before .before .before .if1 .left) _ (c .before .before .before .has-mark .ensures) (not-false _ (c .before .before .if2 .left))
+    let marked = c .before .before .before in
+    head-version _ (marked .before .if1 .left) _ (marked .has-mark .ensures) (not-false _ (c .before .before .if2 .left))
     _ (c .before .get16 .ensures .0) (c .if3 .taken)
 
 get16-requires-2 : tie.Need-get16-requires-2
@@ -34,8 +35,11 @@ cast-count c = search needs
 
 returns-4 : tie.Need-returns-4
 returns-4 c =
-    head-count _ (c .before .before .before .before .before .before .if1 .left) _ (c .before .before .before .before .before .has-mark .ensures) (not-false _ (c .before .before .before .before .if2 .left))
-    _ (c .before .before .before .get16 .ensures .0) (c .before .before .if3 .left) _ (c .before .get162 .ensures .0) (c .if4 .taken)
+    let counted = c .before in
+    let versioned = counted .before .before in
+    let marked = versioned .before .before in
+    head-count _ (marked .before .if1 .left) _ (marked .has-mark .ensures) (not-false _ (versioned .before .if2 .left))
+    _ (versioned .get16 .ensures .0) (counted .before .if3 .left) _ (counted .get162 .ensures .0) (c .if4 .taken)
 
 mul-if5 : tie.Need-mul-if5
 mul-if5 c = search needs
@@ -45,13 +49,21 @@ add-if5 c = search needs
 
 returns-5 : tie.Need-returns-5
 returns-5 c =
-    head-length _ (c .before .before .before .before .before .before .before .if1 .left) _ (c .before .before .before .before .before .before .has-mark .ensures) (not-false _ (c .before .before .before .before .before .if2 .left))
-    _ (c .before .before .before .before .get16 .ensures .0) (c .before .before .before .if3 .left) _ (c .before .before .get162 .ensures .0) (c .before .if4 .left) (c .if5 .taken)
+    let counted = c .before .before in
+    let versioned = counted .before .before in
+    let marked = versioned .before .before in
+    head-length _ (marked .before .if1 .left) _ (marked .has-mark .ensures) (not-false _ (versioned .before .if2 .left))
+    _ (versioned .get16 .ensures .0) (counted .before .if3 .left) _ (counted .get162 .ensures .0)
+    (c .before .if4 .left) (c .if5 .taken)
 
 returns-6 : tie.Need-returns-6
 returns-6 c =
-    head-passes _ (c .before .before .before .before .before .before .before .if1 .left) _ (c .before .before .before .before .before .before .has-mark .ensures) (not-false _ (c .before .before .before .before .before .if2 .left))
-    _ (c .before .before .before .before .get16 .ensures .0) (c .before .before .before .if3 .left) _ (c .before .before .get162 .ensures .0) (c .before .if4 .left) (c .if5 .left)
+    let counted = c .before .before in
+    let versioned = counted .before .before in
+    let marked = versioned .before .before in
+    head-passes _ (marked .before .if1 .left) _ (marked .has-mark .ensures) (not-false _ (versioned .before .if2 .left))
+    _ (versioned .get16 .ensures .0) (counted .before .if3 .left) _ (counted .get162 .ensures .0)
+    (c .before .if4 .left) (c .if5 .left)
 
 pub check-head-spec : {M : Type 1} → statement M
 check-head-spec =

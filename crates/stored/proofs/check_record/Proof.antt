@@ -26,8 +26,10 @@ enum-told-3 c = search needs
 
 returns-2 : tie.Need-returns-2
 returns-2 c =
-    record-period _ _ _ (c .before .before .before .before .before .check-time .ensures) (c .before .before .before .enum-told2 .given .1)
-    _ (c .before .before .check-time2 .ensures) _ (c .enum-told3 .given .1)
+    let period = c .before .before in
+    let phase = period .before .before .before in
+    record-period _ _ _ (phase .check-time .ensures) (period .before .enum-told2 .given .1)
+    _ (period .check-time2 .ensures) _ (c .enum-told3 .given .1)
 
 enum-told-4 : tie.Need-enum-told-4
 enum-told-4 c = search needs
@@ -40,9 +42,12 @@ enum-told-5 c = search needs
 
 returns-3 : tie.Need-returns-3
 returns-3 c =
-    record-duration _ _ _ (c .before .before .before .before .before .before .before .before .check-time .ensures) (c .before .before .before .before .before .before .enum-told2 .given .1)
-    _ (c .before .before .before .before .before .check-time2 .ensures) (c .before .before .before .enum-told4 .given .1)
-    _ (c .before .before .check-time3 .ensures) _ (c .enum-told5 .given .1)
+    let duration = c .before .before in
+    let period = duration .before .before .before in
+    let phase = period .before .before .before in
+    record-duration _ _ _ (phase .check-time .ensures) (period .before .enum-told2 .given .1)
+    _ (period .check-time2 .ensures) (duration .before .enum-told4 .given .1)
+    _ (duration .check-time3 .ensures) _ (c .enum-told5 .given .1)
 
 enum-told-6 : tie.Need-enum-told-6
 enum-told-6 c = search needs
@@ -52,10 +57,13 @@ check-requires c κs = search needs
 
 returns-4 : tie.Need-returns-4
 returns-4 c =
+    let duration = c .before .before .before in
+    let period = duration .before .before .before in
+    let phase = period .before .before .before in
     c .check .ensures
-    ∙ record-rest _ _ _ (c .before .before .before .before .before .before .before .before .before .check-time .ensures) (c .before .before .before .before .before .before .before .enum-told2 .given .1)
-    _ (c .before .before .before .before .before .before .check-time2 .ensures) (c .before .before .before .before .enum-told4 .given .1)
-    _ (c .before .before .before .check-time3 .ensures) (c .before .enum-told6 .given .1)
+    ∙ record-rest _ _ _ (phase .check-time .ensures) (period .before .enum-told2 .given .1)
+    _ (period .check-time2 .ensures) (duration .before .enum-told4 .given .1)
+    _ (duration .check-time3 .ensures) (c .before .enum-told6 .given .1)
 
 pub check-record-spec : {M : Type 1} → statement M
 check-record-spec =

@@ -24,13 +24,19 @@ loop-holds : tie.Need-loop-holds Inv-loop μ-loop
 loop-holds c = passing-begins _ _
 
 mul-get-record : tie.Need-mul-get-record Inv-loop μ-loop
-mul-get-record c = omega (arith, walk-within _ _ _ _ (c .loop-test .taken) (c .before .before .before .pre .0) (c .before .before .before .pre .1))
+mul-get-record c =
+    let start = c .before .before .before in
+    omega (arith, walk-within _ _ _ _ (c .loop-test .taken) (start .pre .0) (start .pre .1))
 
 add-get-record : tie.Need-add-get-record Inv-loop μ-loop
-add-get-record c = omega (arith, walk-within _ _ _ _ (c .loop-test .taken) (c .before .before .before .pre .0) (c .before .before .before .pre .1))
+add-get-record c =
+    let start = c .before .before .before in
+    omega (arith, walk-within _ _ _ _ (c .loop-test .taken) (start .pre .0) (start .pre .1))
 
 get-record-requires : tie.Need-get-record-requires Inv-loop μ-loop
-get-record-requires c κs = walk-within _ _ _ _ (c .loop-test .taken) (c .before .before .before .pre .0) (c .before .before .before .pre .1)
+get-record-requires c κs =
+    let start = c .before .before .before in
+    walk-within _ _ _ _ (c .loop-test .taken) (start .pre .0) (start .pre .1)
 
 check-record-requires : tie.Need-check-record-requires Inv-loop μ-loop
 check-record-requires c κs = search needs
@@ -41,8 +47,12 @@ enum-told c = search needs
 returns : tie.Need-returns Inv-loop μ-loop
 returns c =
     let e = c .enum-told .given .1 in
-    let found = sym (c .before .before .check-record .ensures ∙ ap (storedCheck _) (c .before .before .before .get-record .ensures ∙ walk-at _ _ _ _ (c .before .before .before .before .loop-test .taken))) ∙ e in
-    e ∙ passing-refused _ _ _ (c .before .before .before .before .before .loop .inv) _ (walk-in (c .before .before .before .before .before .before .before .args .bytes .now) _ _ _ (c .before .before .before .before .loop-test .taken)) found
+    let checked = c .before .before in
+    let turn = checked .before .before in
+    let file = turn .before .before .before .args .bytes .now in
+    let h = turn .loop-test .taken in
+    let found = sym (checked .check-record .ensures ∙ ap (storedCheck _) (checked .before .get-record .ensures ∙ walk-at file _ _ _ h)) ∙ e in
+    e ∙ passing-refused _ _ _ (turn .before .loop .inv) _ (walk-in file _ _ _ h) found
 
 enum-told-2 : tie.Need-enum-told-2 Inv-loop μ-loop
 enum-told-2 c = search needs
@@ -56,11 +66,17 @@ loop-less c = omega arith
 loop-again : tie.Need-loop-again Inv-loop μ-loop
 loop-again c =
     let e = c .enum-told2 .given .1 in
-    let found = sym (c .before .before .check-record .ensures ∙ ap (storedCheck _) (c .before .before .before .get-record .ensures ∙ walk-at _ _ _ _ (c .before .before .before .before .loop-test .taken))) ∙ e in
-    passing-on _ _ _ (c .before .before .before .before .before .loop .inv) (walk-in (c .before .before .before .before .before .before .before .args .bytes .now) _ _ _ (c .before .before .before .before .loop-test .taken)) found
+    let checked = c .before .before in
+    let turn = checked .before .before in
+    let file = turn .before .before .before .args .bytes .now in
+    let h = turn .loop-test .taken in
+    let found = sym (checked .check-record .ensures ∙ ap (storedCheck _) (checked .before .get-record .ensures ∙ walk-at file _ _ _ h)) ∙ e in
+    passing-on _ _ _ (turn .before .loop .inv) (walk-in file _ _ _ h) found
 
 returns-2 : tie.Need-returns-2 Inv-loop μ-loop
-returns-2 c = passing-ends _ _ _ (c .before .loop .inv) (walk-out (c .before .before .before .args .bytes .now) _ _ _ (c .loop-test .left))
+returns-2 c =
+    let file = c .before .before .before .args .bytes .now in
+    passing-ends _ _ _ (c .before .loop .inv) (walk-out file _ _ _ (c .loop-test .left))
 
 pub check-records-spec : {M : Type 1} → statement M
 check-records-spec =

@@ -20,7 +20,10 @@ get-time-requires-3 : tie.Need-get-time-requires-3
 get-time-requires-3 c κs = search needs
 
 returns : tie.Need-returns
-returns c = λ i. record { phase = c .before .before .get-time .ensures i; period = c .before .get-time2 .ensures i; duration = c .get-time3 .ensures i }
+returns c =
+    let period = c .before in
+    let phase = period .before in
+    λ i. record { phase = phase .get-time .ensures i; period = period .get-time2 .ensures i; duration = c .get-time3 .ensures i }
 
 pub get-record-spec : {M : Type 1} → statement M
 get-record-spec =

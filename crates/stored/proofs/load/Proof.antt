@@ -28,18 +28,24 @@ cast-count : tie.Need-cast-count
 cast-count c = search needs
 
 check-records-requires : tie.Need-check-records-requires
-check-records-requires c κs = (omega arith, trains-within _ _ (head-passed _ (sym (c .before .before .before .check-head .ensures) ∙ c .before .enum-told .given .1)) (c .get16 .ensures .0))
+check-records-requires c κs =
+    let head = c .before .before .before in
+    let found = head-passed _ (sym (head .check-head .ensures) ∙ c .before .enum-told .given .1) in
+    (omega arith, trains-within _ _ found (c .get16 .ensures .0))
 
 enum-known-trains : tie.Need-enum-known-trains
 enum-known-trains c = search needs
 
 returns-2 : tie.Need-returns-2
 unfolding loadedIn
-returns-2 c = (
-  load-trains _ _ _ (c .before .before .before .before .before .before .before .check-head .ensures) (c .before .before .before .before .before .enum-told .given .1) _ (c .before .before .before .before .get16 .ensures .0)
-      _ (c .before .before .before .check-records .ensures) _ (c .before .trains .given .1),
-  refl,
-)
+returns-2 c =
+    let trains = c .before .before .before in
+    let counted = trains .before in
+    let head = counted .before .before .before in (
+      load-trains _ _ _ (head .check-head .ensures) (counted .before .enum-told .given .1) _ (counted .get16 .ensures .0)
+          _ (trains .check-records .ensures) _ (c .before .trains .given .1),
+      refl,
+    )
 
 enum-told-2 : tie.Need-enum-told-2
 enum-told-2 c = search needs
@@ -49,27 +55,36 @@ mul-if1 c = search needs
 
 returns-3 : tie.Need-returns-3
 unfolding loadedIn
-returns-3 c = (
-  load-short _ _ _ (c .before .before .before .before .before .before .before .check-head .ensures) (c .before .before .before .before .before .enum-told .given .1) _ (c .before .before .before .before .get16 .ensures .0)
-      _ (c .before .before .before .check-records .ensures) (c .before .enum-told2 .given .1) (c .if1 .taken),
-  refl,
-)
+returns-3 c =
+    let trains = c .before .before .before in
+    let counted = trains .before in
+    let head = counted .before .before .before in (
+      load-short _ _ _ (head .check-head .ensures) (counted .before .enum-told .given .1) _ (counted .get16 .ensures .0)
+          _ (trains .check-records .ensures) (c .before .enum-told2 .given .1) (c .if1 .taken),
+      refl,
+    )
 
 put-entries-requires : tie.Need-put-entries-requires
-put-entries-requires c κs = (
-  omega arith,
-  (trains-within _ _ (head-passed _ (sym (c .before .before .before .before .before .before .before .before .check-head .ensures) ∙ c .before .before .before .before .before .before .enum-told .given .1)) (c .before .before .before .before .before .get16 .ensures .0), omega arith),
-)
+put-entries-requires c κs =
+    let counted = c .before .before .before .before .before in
+    let head = counted .before .before .before in
+    let found = head-passed _ (sym (head .check-head .ensures) ∙ counted .before .enum-told .given .1) in
+    (omega arith, (trains-within _ _ found (counted .get16 .ensures .0), omega arith))
 
 same-length : tie.Need-same-length
 same-length c = search needs
 
 returns-4 : tie.Need-returns-4
-returns-4 c = (
-  load-answers _ _ _ (c .before .before .before .before .before .before .before .before .before .before .before .check-head .ensures) (c .before .before .before .before .before .before .before .before .before .enum-told .given .1) _ (c .before .before .before .before .before .before .before .before .get16 .ensures .0)
-      _ (c .before .before .before .before .before .before .before .check-records .ensures) (c .before .before .before .before .before .enum-told2 .given .1) (c .before .before .before .before .if1 .left),
-  load-writes _ _ _ _ (c .before .before .before .before .before .before .before .before .get16 .ensures .0) (c .before .before .put-entries .ensures),
-)
+returns-4 c =
+    let put = c .before .before in
+    let room = put .before .before in
+    let trains = room .before .before .before in
+    let counted = trains .before in
+    let head = counted .before .before .before in (
+      load-answers _ _ _ (head .check-head .ensures) (counted .before .enum-told .given .1) _ (counted .get16 .ensures .0)
+          _ (trains .check-records .ensures) (room .before .enum-told2 .given .1) (room .if1 .left),
+      load-writes _ _ _ _ (counted .get16 .ensures .0) (put .put-entries .ensures),
+    )
 
 pub load-spec : {M : Type 1} → statement M
 load-spec =

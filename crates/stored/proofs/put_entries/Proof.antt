@@ -25,13 +25,19 @@ loop-holds : tie.Need-loop-holds Inv-loop μ-loop
 loop-holds c = (writing-begins _ _ _ _ 0 _, refl)
 
 mul-get-record : tie.Need-mul-get-record Inv-loop μ-loop
-mul-get-record c = omega (arith, walk-within _ _ _ _ (c .loop-test .taken) (c .before .before .before .before .pre .0) (c .before .before .before .before .pre .1 .0))
+mul-get-record c =
+    let start = c .before .before .before .before in
+    omega (arith, walk-within _ _ _ _ (c .loop-test .taken) (start .pre .0) (start .pre .1 .0))
 
 add-get-record : tie.Need-add-get-record Inv-loop μ-loop
-add-get-record c = omega (arith, walk-within _ _ _ _ (c .loop-test .taken) (c .before .before .before .before .pre .0) (c .before .before .before .before .pre .1 .0))
+add-get-record c =
+    let start = c .before .before .before .before in
+    omega (arith, walk-within _ _ _ _ (c .loop-test .taken) (start .pre .0) (start .pre .1 .0))
 
 get-record-requires : tie.Need-get-record-requires Inv-loop μ-loop
-get-record-requires c κs = walk-within _ _ _ _ (c .loop-test .taken) (c .before .before .before .before .pre .0) (c .before .before .before .before .pre .1 .0)
+get-record-requires c κs =
+    let start = c .before .before .before .before in
+    walk-within _ _ _ _ (c .loop-test .taken) (start .pre .0) (start .pre .1 .0)
 
 mul-put-entry : tie.Need-mul-put-entry Inv-loop μ-loop
 mul-put-entry c = omega arith
@@ -47,20 +53,24 @@ loop-less c = omega arith
 
 loop-again : tie.Need-loop-again Inv-loop μ-loop
 loop-again c =
-    let turn = c .before .before .before .before .before in
+    let put = c .before .before in
+    let got = put .before .before in
+    let turn = got .before in
     let inv = turn .before .loop .inv in
     let h = turn .loop-test .taken in
-    let file = c .before .before .before .before .before .before .before .before .before .args .bytes .now in (
+    let file = turn .before .before .before .before .args .bytes .now in (
       writing-on _ _ _ _ 0 _ _ _ _ _ _ noEntry (walk-in file _ _ _ h) (omega arith) (omega arith)
-          (c .before .before .before .before .get-record .ensures ∙ walk-at file _ _ _ h) (inv .0) (c .before .before .put-entry .ensures),
-      omega (arith, inv .1, c .before .before .put-entry .kept .0),
+          (got .get-record .ensures ∙ walk-at file _ _ _ h) (inv .0) (put .put-entry .ensures),
+      omega (arith, inv .1, put .put-entry .kept .0),
     )
 
 same-length : tie.Need-same-length Inv-loop μ-loop
 same-length c = omega arith
 
 returns : tie.Need-returns Inv-loop μ-loop
-returns c = writing-ends _ _ _ _ 0 _ _ _ (walk-out (c .before .before .before .before .args .bytes .now) _ _ _ (c .loop-test .left)) (c .before .loop .inv .0)
+returns c =
+    let file = c .before .before .before .before .args .bytes .now in
+    writing-ends _ _ _ _ 0 _ _ _ (walk-out file _ _ _ (c .loop-test .left)) (c .before .loop .inv .0)
 
 pub put-entries-spec : {M : Type 1} → statement M
 put-entries-spec =

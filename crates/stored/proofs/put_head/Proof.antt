@@ -32,10 +32,16 @@ put16-requires-2 : tie.Need-put16-requires-2
 put16-requires-2 c κs = omega (arith, simp length-set at (c .before .before .before .put16 .kept .0))
 
 same-length : tie.Need-same-length
-same-length c = omega (arith, c .before .before .put162 .kept .0, simp length-set at (c .before .before .before .before .before .before .put16 .kept .0))
+same-length c =
+    let counted = c .before .before in
+    let versioned = counted .before .before .before .before in
+    omega (arith, counted .put162 .kept .0, simp length-set at (versioned .put16 .kept .0))
 
 returns : tie.Need-returns
-returns c = put-all _ _ _ _ (omega arith) (c .before .before .before .before .before .before .put16 .ensures) (c .before .before .put162 .ensures)
+returns c =
+    let counted = c .before .before in
+    let versioned = counted .before .before .before .before in
+    put-all _ _ _ _ (omega arith) (versioned .put16 .ensures) (counted .put162 .ensures)
 
 pub put-head-spec : {M : Type 1} → statement M
 put-head-spec =

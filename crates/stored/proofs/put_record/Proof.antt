@@ -25,8 +25,11 @@ same-length c = search needs
 
 returns : tie.Need-returns
 returns c =
-    put-three _ _ _ _ _ _ (c .before .before .before .before .before .before .before .before .before .before .before .before .before .pre)
-    (c .before .before .before .before .before .before .before .before .before .before .put-time .ensures) (c .before .before .before .before .before .before .put-time2 .ensures) (c .before .before .put-time3 .ensures)
+    let duration = c .before .before in
+    let period = duration .before .before .before .before in
+    let phase = period .before .before .before .before in
+    put-three _ _ _ _ _ _ (phase .before .before .before .pre)
+    (phase .put-time .ensures) (period .put-time2 .ensures) (duration .put-time3 .ensures)
 
 pub put-record-spec : {M : Type 1} → statement M
 put-record-spec =

@@ -35,7 +35,9 @@ add-put-record : tie.Need-add-put-record Inv-loop μ-loop
 add-put-record c = omega arith
 
 put-record-requires : tie.Need-put-record-requires Inv-loop μ-loop
-put-record-requires c κs = omega (arith, entries-length (c .before .before .before .before .before .before .args .row .now), c .before .before .before .before .before .before .pre)
+put-record-requires c κs =
+    let start = c .before .before .before .before .before .before in
+    omega (arith, entries-length (start .args .row .now), start .pre)
 
 add-position : tie.Need-add-position Inv-loop μ-loop
 add-position c = search needs
@@ -45,19 +47,23 @@ loop-less c = omega arith
 
 loop-again : tie.Need-loop-again Inv-loop μ-loop
 loop-again c =
-    let turn = c .before .before .before .before .before in
+    let put = c .before .before in
+    let got = put .before .before in
+    let turn = got .before in
     let inv = turn .before .loop .inv in
-    let given = c .before .before .before .before .before .before .before .before .before .args .row .now in (
+    let given = turn .before .before .before .before .args .row .now in (
       writing-on _ _ _ _ _ _ _ _ _ _ _ noEntry (lowest-in given _ (turn .loop-test .taken)) (omega arith) refl
-          (ap lowestEntry (c .before .before .before .before .at .ensures) ∙ sym (lowest-at (entries given) (turn .before .loop .position))) (inv .0) (c .before .before .put-record .ensures),
-      omega (arith, inv .1, c .before .before .put-record .kept .0),
+          (ap lowestEntry (got .at .ensures) ∙ sym (lowest-at (entries given) (turn .before .loop .position))) (inv .0) (put .put-record .ensures),
+      omega (arith, inv .1, put .put-record .kept .0),
     )
 
 same-length : tie.Need-same-length Inv-loop μ-loop
 same-length c = omega arith
 
 returns : tie.Need-returns Inv-loop μ-loop
-returns c = writing-ends _ _ _ _ _ _ _ _ (lowest-out (c .before .before .before .before .args .row .now) _ (c .loop-test .left)) (c .before .loop .inv .0)
+returns c =
+    let given = c .before .before .before .before .args .row .now in
+    writing-ends _ _ _ _ _ _ _ _ (lowest-out given _ (c .loop-test .left)) (c .before .loop .inv .0)
 
 pub put-records-spec : {M : Type 1} → statement M
 put-records-spec =

@@ -22,8 +22,10 @@ same-length c = search needs
 
 returns : tie.Need-returns
 returns c =
-    put-both _ _ _ _ _ _ (c .before .before .before .before .before .before .before .before .before .before .pre) (c .before .before .before .before .before .before .before .before .lowest .ensures)
-    (c .before .before .before .before .before .before .put32 .ensures) (c .before .before .put322 .ensures)
+    let second = c .before .before in
+    let first = second .before .before .before .before in
+    let reduced = first .before .before in
+    put-both _ _ _ _ _ _ (reduced .before .before .pre) (reduced .lowest .ensures) (first .put32 .ensures) (second .put322 .ensures)
 
 pub put-time-spec : {M : Type 1} → statement M
 put-time-spec =

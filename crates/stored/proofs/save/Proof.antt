@@ -39,16 +39,24 @@ put-head-requires : tie.Need-put-head-requires
 put-head-requires c κs = search needs
 
 put-records-requires : tie.Need-put-records-requires
-put-records-requires c κs = omega (arith, entries-length (c .before .before .before .before .before .before .before .before .before .before .before .args .row .now), c .before .before .before .before .before .if1 .left, c .before .before .before .put-head .kept .0)
+put-records-requires c κs =
+    let head = c .before .before .before in
+    let room = head .before .before in
+    let start = room .before .before .before .before .before .before in
+    omega (arith, entries-length (start .args .row .now), room .if1 .left, head .put-head .kept .0)
 
 same-length : tie.Need-same-length
 same-length c = search needs
 
 returns-3 : tie.Need-returns-3
-returns-3 c = (
-  save-answers _ _ _ (c .before .before .before .before .before .before .before .before .before .before .before .check .ensures) (c .before .before .before .before .before .before .before .before .before .enum-told .given .1) (c .before .before .before .before .before .before .before .before .if1 .left),
-  (save-writes _ _ _ _ (omega arith) (c .before .before .before .before .before .before .put-head .ensures) (c .before .before .put-records .ensures), refl),
-)
+returns-3 c =
+    let records = c .before .before in
+    let head = records .before .before .before .before in
+    let room = head .before .before in
+    let checked = room .before .before .before in (
+      save-answers _ _ _ (checked .check .ensures) (room .before .enum-told .given .1) (room .if1 .left),
+      (save-writes _ _ _ _ (omega arith) (head .put-head .ensures) (records .put-records .ensures), refl),
+    )
 
 pub save-spec : {M : Type 1} → statement M
 save-spec =
