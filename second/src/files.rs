@@ -1,4 +1,4 @@
-//! Saves and loads drawn from a seed, how they are handed to the program `files`, and what it has to write for each.
+//! Saves and loads drawn from a seed, how they are handed to the program `calls`, and what it has to write for each.
 //! Each kind is aimed at a place of the paper where a program is likely to go wrong. What a call deserves is not
 //! settled here, but in `stored`.
 
@@ -100,7 +100,7 @@ impl Case {
         }
     }
 
-    /// What the program `files` has to write: 0, the length or the count, and 0; or 1, the refusal's number, and its
+    /// What the program `calls` has to write: 0, the length or the count, and 0; or 1, the refusal's number, and its
     /// train; and then the whole of the lent memory.
     pub fn answer(&self) -> Vec<u8> {
         let mut memory = match self {

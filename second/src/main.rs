@@ -18,17 +18,18 @@ use std::process::ExitCode;
 const USAGE: &str = "\
 usage: second ground             what the program `ground` has to print
        second sheet              the lines of the tables of the bench sheet, in order
-       second sheet-rows         the rows of those tables, as bytes
-       second rows SEED CASES    rows drawn from the seed, as bytes: for each row its length in two
-                                 and then each number in four, most significant byte first
+       second sheet-rows         the calls that judge those tables, as bytes for the program `calls`
+       second rows SEED CASES    calls that judge rows drawn from the seed, for the program `calls`: for each
+                                 the letter J, no room, the length in two bytes, and then each number in
+                                 four, most significant byte first
        second lines SEED CASES   the lines of the same rows
        second tally SEED CASES   how many of those lines there are of each kind
        second row SEED CASE      one of those rows as numbers, the first being case 0
-       second files SEED CASES   saves and loads drawn from the seed, for the program `files`: for each the
+       second files SEED CASES   saves and loads drawn from the seed, for the program `calls`: for each the
                                  letter S or L, the room and the length in two bytes each, and then the
                                  numbers in four or the bytes, most significant byte first
        second answers SEED CASES
-                                 what the program `files` has to write for them
+                                 what the program `calls` has to write for them
        second file-tally SEED CASES
                                  how many of those answers there are of each kind
        second file-case SEED CASE

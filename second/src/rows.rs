@@ -60,9 +60,11 @@ pub fn row(seed: u64, case: u64) -> Vec<u32> {
     }
 }
 
-/// The row as bytes: its length in two, and each number in four, most significant byte first.
+/// The call that judges the row, as bytes for the program `calls`: a letter, no lent memory, the length in two bytes, and
+/// each number in four, most significant byte first.
 pub fn bytes(row: &[u32]) -> Vec<u8> {
-    let mut bytes = (row.len() as u16).to_be_bytes().to_vec();
+    let mut bytes = vec![b'J', 0, 0];
+    bytes.extend((row.len() as u16).to_be_bytes());
     bytes.extend(row.iter().flat_map(|number| number.to_be_bytes()));
     bytes
 }

@@ -7,8 +7,8 @@ use lib.ListN.{length, replicate, length-replicate}
 use lib.Seq.{length-take-le}
 use native.Mathlib.Omega.{arith}
 use borrow.Author.Needs.{needs}
-use Rattle.files.proofs.save_next.Statement.{statement}
-use Rattle.files.proofs.save_next.Tie as tie
+use Rattle.calls.proofs.save_next.Statement.{statement}
+use Rattle.calls.proofs.save_next.Tie as tie
 
 -- what the buffers for the row and its bytes hold at first
 abbrev zeros : ℕ → List ℕ

@@ -4,8 +4,8 @@ use Prim.Native.Nat.{_*_, _-_, _≤_}
 use mathlib.Core.Path.{_≡_}
 use lib.ListN.{length}
 use borrow.Author.Needs.{needs}
-use Rattle.files.proofs.spread.Statement.{statement}
-use Rattle.files.proofs.spread.Tie as tie
+use Rattle.calls.proofs.spread.Statement.{statement}
+use Rattle.calls.proofs.spread.Tie as tie
 
 abbrev Inv-loop : tie.InvT-loop
 Inv-loop row bytes₀ at₀ bytes at = (at ≤ length bytes₀) × (length bytes₀ ≤ 4 * length row) × (length bytes ≡ length bytes₀)

@@ -1,8 +1,8 @@
-// Saves rows and loads stored tables from standard input until it ends, and writes for each call what it answered and all
-// of the memory that was lent to it. A call is one byte, S or L; the length of the memory and that of the row or the file
-// in two bytes each; and the row's numbers in four bytes each, or the file. An answer is 0, the length or the count, and
-// 0; or 1, the refusal's number, and its train: one byte and two numbers in two. The most significant byte comes first.
-// What is longer than there is room for, and any other letter, ends the program.
+// Judges and saves rows and loads stored tables from standard input until it ends, and writes what each call answered. A
+// call is one letter, J, S or L; the length of the lent memory and that of the row or the file in two bytes each; and the
+// row's numbers in four bytes each, or the file; the most significant byte first. J writes the line of the verdict. S and
+// L write 0, the length or the count, and 0, or 1, the refusal's number, and its train (one byte, and two numbers in two),
+// and then all of the lent memory. What is longer than there is room for, and any other letter, ends the program.
 // Nothing is decided here, so nothing is promised but that it ends safely.
 ghost use Prim.Native.Nat.{_*_, _≤_};
 ghost use lib.ListN.{length};
@@ -86,14 +86,35 @@ fn refuse(refusal: Refusal) {
     answer(1, refusal.number() as usize, refusal.place());
 }
 
-// Reads a row and saves it, and answers false where the input ends within it.
-fn save_row(bytes: &mut [u8], row: &mut [u32], out: &mut [u8]) -> bool
+// Reads a row by way of its bytes, and answers false where the input ends within it.
+fn read_row(bytes: &mut [u8], row: &mut [u32]) -> bool
     requires { ⌜ 4 * length (now row) ≤ length (now bytes) ⌝ }
 {
     if io::read_full(0, bytes) < bytes.len() {
         return false;
     }
     fill(bytes, row);
+    true
+}
+
+// Reads a row and judges it, and answers false where the input ends within it.
+fn judge_row(bytes: &mut [u8], row: &mut [u32]) -> bool
+    requires { ⌜ 4 * length (now row) ≤ length (now bytes) ⌝ }
+{
+    if !read_row(bytes, row) {
+        return false;
+    }
+    show::show(judge::judge(row));
+    true
+}
+
+// Reads a row and saves it, and answers false where the input ends within it.
+fn save_row(bytes: &mut [u8], row: &mut [u32], out: &mut [u8]) -> bool
+    requires { ⌜ 4 * length (now row) ≤ length (now bytes) ⌝ }
+{
+    if !read_row(bytes, row) {
+        return false;
+    }
     let saved = stored::save(row, out);
     match saved {
         Saved::Length(length) => answer(0, length, 0),
@@ -118,6 +139,16 @@ fn load_file(file: &mut [u8], row: &mut [u32], bytes: &mut [u8]) -> bool
     spread(row, bytes);
     io::write_all(1, bytes);
     true
+}
+
+// The verdict on a row of so many numbers, and whether there may be another call.
+fn judge_next(length: usize) -> bool {
+    if length > MOST_NUMBERS {
+        return false;
+    }
+    let mut bytes = [0u8; 4 * MOST_NUMBERS];
+    let mut row = [0u32; MOST_NUMBERS];
+    judge_row(&mut bytes[..4 * length], &mut row[..length])
 }
 
 // A save of a row of so many numbers, and whether there may be another call.
@@ -164,6 +195,9 @@ fn call_next() -> bool {
     }
     let room = number(0, 0, start[1], start[2]) as usize;
     let length = number(0, 0, start[3], start[4]) as usize;
+    if start[0] == b'J' {
+        return judge_next(length);
+    }
     if start[0] == b'S' {
         return save_next(room, length);
     }

@@ -4,8 +4,8 @@ use Prim.Native.Nat.{_*_, _-_, _≤_}
 use mathlib.Core.Path.{_≡_}
 use lib.ListN.{length}
 use borrow.Author.Needs.{needs}
-use Rattle.rows.proofs.fill.Statement.{statement}
-use Rattle.rows.proofs.fill.Tie as tie
+use Rattle.calls.proofs.fill.Statement.{statement}
+use Rattle.calls.proofs.fill.Tie as tie
 
 abbrev Inv-loop : tie.InvT-loop
 Inv-loop bytes row₀ at₀ row at = (at ≤ length row₀) × (4 * length row₀ ≤ length bytes) × (length row ≡ length row₀)

@@ -7,8 +7,8 @@ use lib.ListN.{length, replicate, length-replicate}
 use lib.Seq.{length-take-le}
 use native.Mathlib.Omega.{arith}
 use borrow.Author.Needs.{needs}
-use Rattle.files.proofs.load_next.Statement.{statement}
-use Rattle.files.proofs.load_next.Tie as tie
+use Rattle.calls.proofs.load_next.Statement.{statement}
+use Rattle.calls.proofs.load_next.Tie as tie
 
 -- what the buffer for the row's bytes holds at first
 abbrev zeros : List ℕ

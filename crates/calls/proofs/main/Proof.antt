@@ -1,7 +1,7 @@
 -- `main` ends: the turns that are left fall. Nothing has to hold from turn to turn. Assumes nothing.
 use borrow.Author.Needs.{needs}
-use Rattle.files.proofs.main.Statement.{statement}
-use Rattle.files.proofs.main.Tie as tie
+use Rattle.calls.proofs.main.Statement.{statement}
+use Rattle.calls.proofs.main.Tie as tie
 
 abbrev Inv-loop : tie.InvT-loop
 Inv-loop turns₀ turns = Unit {0}
