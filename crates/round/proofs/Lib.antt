@@ -1,0 +1,2 @@
+-- The laws of round: Trips has the two round trips.
+pub mod Trips
