@@ -25,7 +25,7 @@ use Rattle.stored.specs.declared.Loaded.the-variants as loads
 use Rattle.stored.specs.Layout.{lengthOf, longest, Bytes}
 use Rattle.stored.specs.Found.{countIn, trainsIn}
 use Rattle.stored.specs.Answer.{saveCheck, savedAfter, saved, savedIn, headCheck, storedCheck, loadCheck, loadedAfter, loaded, loadedIn}
-use Rattle.stored.proofs.Following.{loaded-count}
+use Rattle.stored.proofs.Following.{saved-refused, loaded-refused, loaded-count}
 use Rattle.stored.proofs.Saving.{save-short}
 use Rattle.stored.proofs.Loading.{both-pass, load-short}
 use Rattle.stored.proofs.Accepted.{accepted, stored-loads}
@@ -66,10 +66,7 @@ never-short row room long = go (checked row) refl
 -- a refusal of saving is handed on
 saving-refused :
     (o next : Outcome) (n k : ℕ) (r : Refusal) → savedAfter o n ≡ saves.Refused r → loads.Refused r ≡ loadedAfter (orElse o next) k
-saving-refused Passed next n k r e =
-    let z : _≡_ {A = ℕ} 0 1 = cc in
-    absurd (omega arith)
-saving-refused (Refused q) next n k r e = cc
+saving-refused o next n k r e = sym (ap (λ (p : Outcome). loadedAfter (orElse p next) k) (saved-refused o n r .0 e))
 
 -- of a row that passes there is only the room to be looked at
 kept-passed :
@@ -148,10 +145,7 @@ module _ (row : List ℕ) (room : ℕ) (long : longest ≤ room) (answer : Saved
 -- a refusal of loading is handed on
 loading-refused :
     (o next : Outcome) (k n : ℕ) (r : Refusal) → loadedAfter o k ≡ loads.Refused r → saves.Refused r ≡ savedAfter (orElse o next) n
-loading-refused Passed next k n r e =
-    let z : _≡_ {A = ℕ} 0 1 = cc in
-    absurd (omega arith)
-loading-refused (Refused q) next k n r e = cc
+loading-refused o next k n r e = sym (ap (λ (p : Outcome). savedAfter (orElse p next) n) (loaded-refused o k r .0 e))
 
 -- of a file that is loaded there is only the room to be looked at
 again-passed :

@@ -148,7 +148,7 @@ save-follows row room =
 
 -- ---- The answers of the calls are those of their checks
 
-saved-refused : (o : Outcome) (n : ℕ) (r : Refusal) → (savedAfter o n ≡ saves.Refused r) ↔ (o ≡ Refused r)
+pub saved-refused : (o : Outcome) (n : ℕ) (r : Refusal) → (savedAfter o n ≡ saves.Refused r) ↔ (o ≡ Refused r)
 saved-refused Passed n r = ((λ e. absurd (zero-not-one cc)), (λ e. absurd (refused-not-passed r (sym e))))
 saved-refused (Refused q) n r = ((λ e. cc), (λ e. cc))
 
@@ -156,7 +156,7 @@ pub saved-length : (o : Outcome) (n k : ℕ) → (savedAfter o n ≡ saves.Lengt
 saved-length Passed n k = ((λ e. (refl, cc)), (λ e. ap saves.Length (e .1)))
 saved-length (Refused q) n k = ((λ e. absurd (zero-not-one cc)), (λ e. absurd (refused-not-passed q (e .0))))
 
-loaded-refused : (o : Outcome) (n : ℕ) (r : Refusal) → (loadedAfter o n ≡ loads.Refused r) ↔ (o ≡ Refused r)
+pub loaded-refused : (o : Outcome) (n : ℕ) (r : Refusal) → (loadedAfter o n ≡ loads.Refused r) ↔ (o ≡ Refused r)
 loaded-refused Passed n r = ((λ e. absurd (zero-not-one cc)), (λ e. absurd (refused-not-passed r (sym e))))
 loaded-refused (Refused q) n r = ((λ e. cc), (λ e. cc))
 
