@@ -5,7 +5,7 @@ use Prim.Native.Nat.{ℕ, zero, suc, _*_, _%_, _<_, _≤_}
 use mathlib.Core.Path.{_≡_, refl, sym, ap, _∙_}
 use mathlib.Core.Bool.{true}
 use mathlib.Core.Logic.{_↔_}
-use mathlib.Core.List.{List, [], _∷_}
+use mathlib.Core.List.{List, [], _∷_, _++_}
 use native.Mathlib.Omega.{arith}
 use lib.ListN.{length, getD, take, drop}
 use lib.Seq.{take-at}
@@ -170,3 +170,10 @@ load-accepted bs room k bytes = (there, back)
 
     back : (es : List Entry) × StoredAs bs es × (length es ≡ k) × (k * numbers ≤ room) → loaded bs room ≡ loads.Count k
     back (es, stored, count, fits) = stored-loads bs es room stored (omega arith) ∙ ap loads.Count count
+
+pub load-written :
+    (bs before : List ℕ) (es : List Entry) → StoredAs bs es →
+    loadedIn (loads.Count (length es)) bs before ≡ rowOf es ++ drop (length es * numbers) before
+unfolding loadedIn
+load-written bs before es stored =
+    ap (λ (fs : List Entry). rowOf fs ++ drop (length es * numbers) before) (ap trainsIn (stored .layout) ∙ layout-read es)

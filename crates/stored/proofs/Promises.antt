@@ -17,6 +17,7 @@ promises =
       save-longest = round-trip.save-longest;
       load-refused = following.load-refused;
       load-accepted = accepted.load-accepted;
+      load-written = accepted.load-written;
       load-after-save = round-trip.load-after-save;
       saved-same = round-trip.saved-same;
       save-after-load = round-trip.save-after-load;

@@ -29,8 +29,7 @@ use Rattle.stored.proofs.Following.{saved-length}
 use Rattle.stored.proofs.Loading.{last-test, both-pass}
 use Rattle.stored.proofs.Stores.{layout-length}
 use Rattle.stored.proofs.Saving.{save-answers}
-use Rattle.stored.proofs.Again.{layout-read}
-use Rattle.stored.proofs.Accepted.{accepted, accepted-row, accepted-stored, row-checked, stored-loads}
+use Rattle.stored.proofs.Accepted.{accepted, accepted-row, accepted-stored, row-checked, stored-loads, load-written}
 
 -- ---- Saving, and then loading
 
@@ -102,13 +101,15 @@ pub load-after-save :
     (loaded (take n (savedIn (saves.Length n) row out)) (length before) ≡ loads.Count (length (entries row)))
     × (loadedIn (loads.Count (length (entries row))) (take n (savedIn (saves.Length n) row out)) before
     ≡ lowestRow row ++ drop (length (entries row) * numbers) before)
-unfolding loadedIn
 load-after-save row out before n e room =
     let stored = saved-file row out n e in
     let es : List Entry = map lowestEntry (entries row) in
+    let file : List ℕ = take n (savedIn (saves.Length n) row out) in
     let count = length-map (entries row) lowestEntry in (
-      stored-loads (take n (savedIn (saves.Length n) row out)) es (length before) stored (omega (arith, count)) ∙ ap loads.Count count,
-      ap (λ (fs : List Entry). rowOf fs ++ drop (length (entries row) * numbers) before) (ap trainsIn (stored .layout) ∙ layout-read es),
+      stored-loads file es (length before) stored (omega (arith, count)) ∙ ap loads.Count count,
+      ap (λ (k : ℕ). loadedIn (loads.Count k) file before) (sym count)
+          ∙ load-written file before es stored
+          ∙ ap (λ (k : ℕ). rowOf es ++ drop (k * numbers) before) count,
     )
 
 pub saved-same : (row : List ℕ) (room n : ℕ) → saved row room ≡ saves.Length n → SameRow row (lowestRow row)

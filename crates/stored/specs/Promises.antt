@@ -7,7 +7,7 @@ use lib.ListN.{length, take, drop}
 use Rattle.refusal.specs.declared.Refusal.{Refusal}
 use Rattle.refusal.specs.Order.{None, First}
 use Rattle.table.specs.declared.Entry.{Entry}
-use Rattle.table.specs.Row.{numbers, entries, lowestEntry, lowestRow, SameRow}
+use Rattle.table.specs.Row.{numbers, entries, rowOf, lowestEntry, lowestRow, SameRow}
 use Rattle.stored.specs.declared.Saved.the-variants as saves
 use Rattle.stored.specs.declared.Loaded.the-variants as loads
 use Rattle.stored.specs.Layout.{bytesOf, lengthOf, longest, Bytes, StoredAs}
@@ -27,11 +27,14 @@ pub record Promises : Type 0 where
       (saved row room ≡ saves.Length n) ↔ (None (saveOrder row room) × (n ≡ length (bytesOf (map lowestEntry (entries row)))))
   pub save-longest : (row : List ℕ) (room n : ℕ) → saved row room ≡ saves.Length n → n ≤ longest
   -- S2, R2. The same of loading; and it accepts just the bytes that are the layout of trains in lowest terms that pass refusals 1 to 4,
-  -- for which the row has room, and answers their count.
+  -- for which the row has room, answers their count, and writes their numbers.
   pub load-refused : (bs : List ℕ) (room : ℕ) (r : Refusal) → (loaded bs room ≡ loads.Refused r) ↔ First (loadOrder bs room) r
   pub load-accepted :
       (bs : List ℕ) (room k : ℕ) → Bytes bs →
       (loaded bs room ≡ loads.Count k) ↔ ((es : List Entry) × StoredAs bs es × (length es ≡ k) × (k * numbers ≤ room))
+  pub load-written :
+      (bs before : List ℕ) (es : List Entry) → StoredAs bs es →
+      loadedIn (loads.Count (length es)) bs before ≡ rowOf es ++ drop (length es * numbers) before
   -- S3. What is saved and then loaded is the row in lowest terms, which is the same times; the rest of the lent row keeps its values.
   pub load-after-save :
       (row out before : List ℕ) (n : ℕ) →
