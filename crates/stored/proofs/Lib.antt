@@ -8,4 +8,5 @@ pub mod Loading
 pub mod Again
 pub mod Accepted
 pub mod RoundTrip
+pub mod Written
 pub mod Promises

@@ -3,14 +3,16 @@
 -- Assumes nothing.
 use Prim.Native.Nat.{ℕ, _+_, _*_, _<_, _≤_}
 use mathlib.Core.Path.{_≡_, refl, sym, ap, _∙_}
-use mathlib.Core.Bool.{Bool, true, false}
+use mathlib.Core.Bool.{Bool, true, false, not}
 use mathlib.Core.List.{List}
+use native.Mathlib.Decide.{decLe}
 use native.Mathlib.Omega.{arith}
-use lib.Dec.{ltb}
-use lib.ListN.{length, take, drop}
-use borrow.Author.Tests.{lt-ltb, le-ltb, ltb-false, eqb-true, not-false}
+use lib.Dec.{ltb, eqb}
+use lib.ListN.{length, getD, take, drop}
+use lib.Seq.{length-take-le, getD-take}
+use borrow.Author.Tests.{lt-ltb, le-ltb, ne-eqb, ltb-false, eqb-true, not-false}
 use Rattle.refusal.specs.declared.Refusal.{Refusal}
-use Rattle.refusal.specs.declared.Refusal.the-variants.{BufferTooShort}
+use Rattle.refusal.specs.declared.Refusal.the-variants.{TrainCount, BufferTooShort, WrongMark, WrongVersion, WrongLength}
 use Rattle.lent.specs.Lent.{over}
 use Rattle.lent.proofs.Over.{over-front}
 use Rattle.table.specs.declared.Entry.{Entry}
@@ -22,9 +24,9 @@ use Rattle.table.proofs.Checks.{refused-not-passed}
 use Rattle.table.proofs.Rows.{row-length}
 use Rattle.stored.specs.declared.Loaded.{Loaded}
 use Rattle.stored.specs.declared.Loaded.the-variants as loads
-use Rattle.stored.specs.Layout.{mark, version, headLength, lengthOf}
+use Rattle.stored.specs.Layout.{mark, version, headLength, lengthOf, longest}
 use Rattle.stored.specs.Found.{recordsIn, versionIn, countIn, trainsIn}
-use Rattle.stored.specs.Answer.{headCheck, storedCheck, loadCheck, loadedAfter, loaded, loadedIn}
+use Rattle.stored.specs.Answer.{hasMark, headCheck, storedCheck, loadCheck, loadedAfter, loaded, loadedIn}
 use Rattle.stored.proofs.Walk.{records-length}
 use Rattle.stored.proofs.Following.{mark-is}
 
@@ -61,6 +63,57 @@ head-passed bs e =
       few = ltb-false capacity (countIn bs) (last-test _ _ (few .0));
       whole = eqb-true (length bs) (lengthOf (countIn bs)) (not-false _ (last-test _ _ (few .1)));
     }
+
+-- ---- A file that is too long
+
+-- The head's checks, from its mark, version and count, of a file that is longer than any table.
+abbrev longHead : (m : Bool) (v c : ℕ) → Outcome
+longHead m v c =
+    orElse (test (not m) WrongMark)
+    (orElse (test (not (eqb v version)) WrongVersion)
+    (orElse (test (ltb capacity c) TrainCount) (Refused WrongLength)))
+
+-- its length is not what its count says, if its count is not too large
+long-count :
+    (n c : ℕ) → longest < n →
+    orElse (test (ltb capacity c) TrainCount) (test (not (eqb n (lengthOf c))) WrongLength)
+    ≡ orElse (test (ltb capacity c) TrainCount) (Refused WrongLength)
+long-count n c h = go (decLe c capacity)
+  where
+    go :
+        Dec (c ≤ capacity) →
+        orElse (test (ltb capacity c) TrainCount) (test (not (eqb n (lengthOf c))) WrongLength)
+        ≡ orElse (test (ltb capacity c) TrainCount) (Refused WrongLength)
+    go (yes few) = simp (le-ltb capacity c few, ne-eqb n (lengthOf c) (λ e. omega arith))
+    go (no many) = simp (lt-ltb capacity c (omega arith))
+
+long-head : (bs : List ℕ) → longest < length bs → headCheck bs ≡ longHead (hasMark bs) (versionIn bs) (countIn bs)
+unfolding headCheck
+long-head bs h =
+    let n : ℕ = length bs in
+    let past : headLength ≤ n = omega arith in
+    simp (le-ltb n headLength past)
+    (ap (λ (o : Outcome). orElse (test (not (hasMark bs)) WrongMark) (orElse (test (not (eqb (versionIn bs) version)) WrongVersion) o))
+    (long-count n (countIn bs) h))
+
+-- so what comes behind the first byte that is too many makes no difference
+pub head-front : (bs : List ℕ) → longest < length bs → headCheck (take (longest + 1) bs) ≡ headCheck bs
+unfolding hasMark
+head-front bs h =
+    let front : List ℕ = take (longest + 1) bs in
+    let long : length front ≡ longest + 1 = length-take-le (longest + 1) bs (omega arith) in
+    let same : (i : ℕ) → i < 7 → getD front i 0 ≡ getD bs i 0 = λ i k. getD-take (longest + 1) bs i 0 (omega arith) in
+    long-head front (omega arith)
+    ∙ rw (
+      same 0 (omega arith),
+      same 1 (omega arith),
+      same 2 (omega arith),
+      same 3 (omega arith),
+      same 4 (omega arith),
+      same 5 (omega arith),
+      same 6 (omega arith),
+    )
+    (sym (long-head bs h))
 
 -- ---- The ways through the call
 

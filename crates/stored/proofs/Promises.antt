@@ -6,6 +6,7 @@ use Rattle.stored.proofs.Following as following
 use Rattle.stored.proofs.Again as again
 use Rattle.stored.proofs.Accepted as accepted
 use Rattle.stored.proofs.RoundTrip as round-trip
+use Rattle.stored.proofs.Written as written
 
 pub promises : Promises
 promises =
@@ -14,6 +15,7 @@ promises =
       layout-read = again.layout-read;
       save-refused = following.save-refused;
       save-written = following.save-written;
+      save-bytes = written.save-bytes;
       save-longest = round-trip.save-longest;
       load-refused = following.load-refused;
       load-accepted = accepted.load-accepted;

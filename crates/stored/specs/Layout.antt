@@ -10,6 +10,7 @@
 --     lengthOf count          the length of a stored table of so many trains
 --     longest                 the length of the longest stored table
 --     Bytes bs                every number of a list is a byte
+--     Words row               every number of a row has 32 bits
 --     InLowestTerms e         every time of a train is in lowest terms
 --     StoredAs bs es          the bytes are the layout of trains in lowest terms that pass refusals 1 to 4
 use Prim.Native.Nat.{ℕ, _+_, _*_, _/_, _%_, _<_}
@@ -70,6 +71,10 @@ longest = lengthOf capacity
 -- Every number of a list is a byte, as those of a slice of bytes are.
 abbrev pub Bytes : List ℕ → Type 0
 Bytes bs = (i : ℕ) → getD bs i 0 < 256
+
+-- Every number of a row has 32 bits, as those of a slice of 32-bit numbers have.
+abbrev pub Words : List ℕ → Type 0
+Words row = (i : ℕ) → getD row i 0 < 4294967296
 
 -- Every time is in lowest terms.
 pub record InLowestTerms (e : Entry) : Type 0 where
