@@ -1,9 +1,5 @@
-// Judges and saves rows and loads stored tables from standard input until it ends, and writes what each call answered. A
-// call is one letter, J, S or L; the length of the lent memory and that of the row or the file in two bytes each; and the
-// row's numbers in four bytes each, or the file; the most significant byte first. J writes the line of the verdict. S and
-// L write 0, the length or the count, and 0, or 1, the refusal's number, and its train (one byte, and two numbers in two),
-// and then all of the lent memory. What is longer than there is room for, and any other letter, ends the program.
-// Nothing is decided here, so nothing is promised but that it ends safely.
+// Judges and saves rows and loads stored tables from standard input until it ends, and writes what each call answered, with
+// all of the lent memory. Nothing is decided here, so nothing is promised but that it ends safely.
 ghost use Prim.Native.Nat.{_*_, _≤_};
 ghost use lib.ListN.{length};
 use refusal::Refusal;
@@ -70,7 +66,8 @@ fn spread(row: &[u32], bytes: &mut [u8])
     }
 }
 
-// Writes an answer without its memory.
+// Writes an answer without its memory: 0, the length or the count, and 0; or 1, the refusal's number, and its train. The
+// first is one byte, and the others are two each.
 fn answer(status: u8, first: usize, second: usize) {
     let bytes = [
         status,
@@ -187,7 +184,9 @@ fn load_next(room: usize, length: usize) -> bool {
     )
 }
 
-// The next call, and whether there may be another.
+// The next call, and whether there may be another. A call is one letter, J, S or L; the length of the lent memory and that
+// of the row or the file in two bytes each; and the row's numbers in four bytes each, or the file; the most significant
+// byte first. What is longer than there is room for, and any other letter, ends the program.
 fn call_next() -> bool {
     let mut start = [0u8; 5];
     if io::read_full(0, &mut start) < 5 {
