@@ -1,12 +1,12 @@
 -- The proof of what specs/Promises.antt states: the definitions compute each verdict.
 -- Assumes nothing.
 use mathlib.Core.Path.{refl}
+use mathlib.Core.List.{flatMap}
 use Rattle.euclid.specs.Answer.{euclidWithin, euclid, gcd, divisions, lcm}
 use Rattle.fraction.specs.Answer.{lowest, isLowest, wholeTicks, commonMultiple, runningFrom, running}
 use Rattle.train.specs.Answer.{withinLimits, expression, free, claims, both, firstFrom, earliest}
 use Rattle.table.specs.Row.{entriesOf, entries, denominators, trains}
 use Rattle.table.specs.Answer.{noDenominator, noTime, firstRefusal, entryCheck, checked, tooLong, ticksCheck, refusal}
-use mathlib.Core.List.{flatMap}
 use Rattle.judge.specs.Pairs.{pairsWith, pairsFrom}
 use Rattle.judge.specs.Answer.{scan, verdict}
 use Rattle.stored.specs.Layout.{bytesOf}
