@@ -48,10 +48,17 @@ over-none d at = simp (append-nil, add-zero, take-append-drop)
 pub over-one : (l : List ℕ) (at v : ℕ) → at + 1 ≤ length l → set l at v ≡ over l at (v ∷ [])
 over-one l at v h = over-sets l at (v ∷ []) h
 
+pub length-over : (l : List ℕ) (at : ℕ) (vs : List ℕ) → at + length vs ≤ length l → length (over l at vs) ≡ length l
+length-over l at vs h = ap length (sym (over-sets l at vs h)) ∙ length-sets l at vs
+
+-- one store more, where a write ended
+pub over-more :
+    (l m vs : List ℕ) (at k v : ℕ) → k + 1 ≤ length l → at + length vs ≡ k → m ≡ over l at vs → set m k v ≡ over l at (vs ++ (v ∷ []))
+over-more l m vs at k v h e w =
+    let same : length m ≡ length l = ap length w ∙ length-over l at vs (omega arith) in
+    over-one m k v (omega arith) ∙ over-then l m vs (v ∷ []) at k (omega arith) e w
+
 -- a write at the front
 pub over-front : (d vs : List ℕ) (n : ℕ) → length vs ≡ n → over d 0 vs ≡ vs ++ drop n d
 unfolding over
 over-front d vs n e = simp (zero-add, e)
-
-pub length-over : (l : List ℕ) (at : ℕ) (vs : List ℕ) → at + length vs ≤ length l → length (over l at vs) ≡ length l
-length-over l at vs h = ap length (sym (over-sets l at vs h)) ∙ length-sets l at vs

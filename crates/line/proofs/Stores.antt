@@ -10,7 +10,7 @@ use lib.ListN.{length, take, getD, set, length-append}
 use lib.Seq.{take-suc, take-length, length-take-le}
 use Rattle.line.specs.Answer.{digit, decimal, space, newline, numbers}
 use Rattle.lent.specs.Lent.{over}
-use Rattle.lent.proofs.Over.{over-one, over-over, over-then, length-over}
+use Rattle.lent.proofs.Over.{over-one, over-more, over-then}
 use Rattle.line.proofs.Notation.{decimal-one, decimal-more, length-one, length-more}
 
 -- a number of one digit
@@ -31,11 +31,7 @@ pub put-more :
     last ≡ at + length (decimal (n / 10)) → m ≡ over l at (decimal (n / 10)) →
     set m last (digit (n % 10)) ≡ over l at (decimal n)
 put-more l m at last n h k e w =
-    let same : length m ≡ length l =
-    ap length w ∙ length-over l at (decimal (n / 10)) (omega (arith, length-more n h)) in
-    over-one m last (digit (n % 10)) (omega (arith, length-more n h))
-    ∙ ap (λ (d : List ℕ). over d last (digit (n % 10) ∷ [])) w
-    ∙ over-over l (decimal (n / 10)) (digit (n % 10) ∷ []) at last (omega arith) (sym e)
+    over-more l m (decimal (n / 10)) at last (digit (n % 10)) (omega (arith, length-more n h)) (sym e) w
     ∙ ap (over l at) (sym (decimal-more n h))
 
 -- ---- A word
@@ -46,10 +42,7 @@ pub word-on :
     m ≡ over l 0 (take i word) → set m i (getD word i 0) ≡ over l 0 (take (i + 1) word)
 word-on l m word i h k w =
     let t : length (take i word) ≡ i = length-take-le i word (omega arith) in
-    let same : length m ≡ length l = ap length w ∙ length-over l 0 (take i word) (omega arith) in
-    over-one m i (getD word i 0) (omega arith)
-    ∙ ap (λ (d : List ℕ). over d i (getD word i 0 ∷ [])) w
-    ∙ over-over l (take i word) (getD word i 0 ∷ []) 0 i (omega arith) (omega arith)
+    over-more l m (take i word) 0 i (getD word i 0) (omega arith) (omega arith) w
     ∙ ap (over l 0) (sym (ap (λ (n : ℕ). take n word) (add-one i) ∙ take-suc word i 0 h))
 
 pub word-ends :
@@ -79,6 +72,5 @@ put-last l m₁ m₂ at next end a b h e f same w₁ w₂ =
     let p : List ℕ = space ∷ decimal a in
     let q : List ℕ = space ∷ decimal b in
     let both : m₂ ≡ over l at (p ++ q) = w₂ ∙ over-then l m₁ p q at next (omega arith) (omega arith) w₁ in
-    over-one m₂ end newline (omega arith)
-    ∙ over-then l m₂ (p ++ q) (newline ∷ []) at end (omega arith) (omega (arith, length-append p q)) both
+    over-more l m₂ (p ++ q) at end newline (omega arith) (omega (arith, length-append p q)) both
     ∙ ap (over l at) (append-assoc p q (newline ∷ []))

@@ -17,9 +17,13 @@ use Rattle.stored.proofs.Loading.{Headed}
 
 -- ---- What is written is read again
 
--- a number is the sum of its bytes
-pub number-whole : (n : ℕ) → n / 16777216 * 16777216 + n / 65536 % 256 * 65536 + n / 256 % 256 * 256 + n % 256 ≡ n
-number-whole n = omega arith
+-- a number is the sum of its two bytes, and of its two halves
+half-whole : (n : ℕ) → n / 256 * 256 + n % 256 ≡ n
+half-whole n = omega arith
+
+number-whole : (n : ℕ) → number32 (bytes32 n) 0 ≡ n
+unfolding number32
+number-whole n = omega (arith, half-whole (n / 65536), half-whole (n % 65536))
 
 record-read : (e : Entry) (rest : List ℕ) → entryIn (recordOf e ++ rest) 0 ≡ e
 unfolding number32
@@ -59,17 +63,6 @@ two-bytes a b hb =
     let q : (a * 256 + b) % 256 ≡ b = omega arith in
     λ i. p i ∷ q i ∷ []
 
-four-bytes :
-    (a b c d : ℕ) → a < 256 → b < 256 → c < 256 → d < 256 →
-    bytes32 (a * 16777216 + b * 65536 + c * 256 + d) ≡ a ∷ b ∷ c ∷ d ∷ []
-four-bytes a b c d ha hb hc hd =
-    let n : ℕ = a * 16777216 + b * 65536 + c * 256 + d in
-    let p : n / 16777216 ≡ a = omega arith in
-    let q : n / 65536 % 256 ≡ b = omega arith in
-    let r : n / 256 % 256 ≡ c = omega arith in
-    let s : n % 256 ≡ d = omega arith in
-    λ i. p i ∷ q i ∷ r i ∷ s i ∷ []
-
 -- the first of some bytes, and the others
 first-byte : (bs : List ℕ) (at : ℕ) → at + 1 ≤ length bs → drop at bs ≡ getD bs at 0 ∷ drop (at + 1) bs
 first-byte bs at h = drop-cons bs at 0 (omega arith) ∙ ap (λ (n : ℕ). getD bs at 0 ∷ drop n bs) (sym (add-one at))
@@ -86,22 +79,14 @@ module _ (bs : List ℕ) (bytes : Bytes bs) where
   number-written : (at : ℕ) → at + 4 ≤ length bs → bytes32 (number32 bs at) ++ drop (at + 4) bs ≡ drop at bs
   unfolding number32
   number-written at h =
-      let e₁ : at + 1 + 1 ≡ at + 2 = omega arith in
-      let e₂ : at + 2 + 1 ≡ at + 3 = omega arith in
-      let e₃ : at + 3 + 1 ≡ at + 4 = omega arith in
-      let fourth = first-byte bs (at + 3) (omega arith) ∙ ap (λ (n : ℕ). getD bs (at + 3) 0 ∷ drop n bs) e₃ in
-      let third =
-      first-byte bs (at + 2) (omega arith)
-      ∙ ap (λ (n : ℕ). getD bs (at + 2) 0 ∷ drop n bs) e₂
-      ∙ ap (λ (l : List ℕ). getD bs (at + 2) 0 ∷ l) fourth in
-      let second =
-      first-byte bs (at + 1) (omega arith)
-      ∙ ap (λ (n : ℕ). getD bs (at + 1) 0 ∷ drop n bs) e₁
-      ∙ ap (λ (l : List ℕ). getD bs (at + 1) 0 ∷ l) third in
-      ap (λ (l : List ℕ). l ++ drop (at + 4) bs)
-      (four-bytes (getD bs at 0) (getD bs (at + 1) 0) (getD bs (at + 2) 0) (getD bs (at + 3) 0)
-      (bytes at) (bytes (at + 1)) (bytes (at + 2)) (bytes (at + 3)))
-      ∙ sym (first-byte bs at (omega arith) ∙ ap (λ (l : List ℕ). getD bs at 0 ∷ l) second)
+      let e : at + 2 + 2 ≡ at + 4 = omega arith in
+      let low : number16 bs (at + 2) < 65536 = omega (arith, bytes (at + 2), bytes (at + 2 + 1)) in
+      let upper : number32 bs at / 65536 ≡ number16 bs at = omega arith in
+      let lower : number32 bs at % 65536 ≡ number16 bs (at + 2) = omega arith in
+      (λ i. bytes16 (upper i) ++ (bytes16 (lower i) ++ drop (at + 4) bs))
+      ∙ ap (λ (n : ℕ). bytes16 (number16 bs at) ++ (bytes16 (number16 bs (at + 2)) ++ drop n bs)) (sym e)
+      ∙ ap (λ (l : List ℕ). bytes16 (number16 bs at) ++ l) (two-written (at + 2) (omega arith))
+      ∙ two-written at (omega arith)
 
   record-written : recordLength ≤ length bs → recordOf (entryIn bs 0) ++ drop recordLength bs ≡ bs
   record-written h =

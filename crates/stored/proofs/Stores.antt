@@ -1,13 +1,13 @@
 -- What the stores of the private functions write, on plain values.
--- Core: two, four, six, that stores one behind another are a write over. The rest puts writes together.
+-- Core: two, six, put-halves, that stores and writes one behind another are one write. The rest puts writes together.
 -- Assumes nothing.
-use Prim.Native.Nat.{ℕ, suc, _+_, _≤_}
+use Prim.Native.Nat.{ℕ, _+_, _/_, _%_, _≤_}
 use mathlib.Core.Path.{_≡_, refl, ap, _∙_}
 use mathlib.Core.List.{List, [], _∷_, _++_, flatMap}
 use native.Mathlib.Omega.{arith}
 use lib.ListN.{length, set, length-append}
 use Rattle.lent.specs.Lent.{over}
-use Rattle.lent.proofs.Over.{over-sets, over-then}
+use Rattle.lent.proofs.Over.{over-sets, over-one, over-more, over-then}
 use Rattle.lent.proofs.Records.{flat-length}
 use Rattle.fraction.specs.declared.Fraction.{Fraction}
 use Rattle.fraction.specs.Answer.{lowest}
@@ -18,30 +18,24 @@ use Rattle.stored.specs.Layout.{mark, version, headLength, bytes16, byte
 -- ---- Core laws
 
 pub two : (l : List ℕ) (at a b : ℕ) → at + 2 ≤ length l → set (set l at a) (at + 1) b ≡ over l at (a ∷ b ∷ [])
-two l at a b h =
-    let e₁ : at + 1 ≡ suc at = omega arith in
-    rw e₁ (over-sets l at (a ∷ b ∷ []) h)
-
-pub four :
-    (l : List ℕ) (at a b c d : ℕ) → at + 4 ≤ length l →
-    set (set (set (set l at a) (at + 1) b) (at + 2) c) (at + 3) d ≡ over l at (a ∷ b ∷ c ∷ d ∷ [])
-four l at a b c d h =
-    let e₁ : at + 1 ≡ suc at = omega arith in
-    let e₂ : at + 2 ≡ suc (suc at) = omega arith in
-    let e₃ : at + 3 ≡ suc (suc (suc at)) = omega arith in
-    rw (e₁, e₂, e₃) (over-sets l at (a ∷ b ∷ c ∷ d ∷ []) h)
+two l at a b h = over-more l (set l at a) (a ∷ []) at (at + 1) b (omega arith) refl (over-one l at a (omega arith))
 
 pub six :
     (l : List ℕ) (at a b c d e f : ℕ) → at + 6 ≤ length l →
     set (set (set (set (set (set l at a) (at + 1) b) (at + 2) c) (at + 3) d) (at + 4) e) (at + 5) f
     ≡ over l at (a ∷ b ∷ c ∷ d ∷ e ∷ f ∷ [])
 six l at a b c d e f h =
-    let e₁ : at + 1 ≡ suc at = omega arith in
-    let e₂ : at + 2 ≡ suc (suc at) = omega arith in
-    let e₃ : at + 3 ≡ suc (suc (suc at)) = omega arith in
-    let e₄ : at + 4 ≡ suc (suc (suc (suc at))) = omega arith in
-    let e₅ : at + 5 ≡ suc (suc (suc (suc (suc at)))) = omega arith in
-    rw (e₁, e₂, e₃, e₄, e₅) (over-sets l at (a ∷ b ∷ c ∷ d ∷ e ∷ f ∷ []) h)
+    over-more l _ (a ∷ b ∷ c ∷ d ∷ e ∷ []) at (at + 5) f (omega arith) refl
+    (over-more l _ (a ∷ b ∷ c ∷ d ∷ []) at (at + 4) e (omega arith) refl
+    (over-more l _ (a ∷ b ∷ c ∷ []) at (at + 3) d (omega arith) refl
+    (over-more l _ (a ∷ b ∷ []) at (at + 2) c (omega arith) refl (two l at a b (omega arith)))))
+
+-- a number: its upper half, then its lower
+pub put-halves :
+    (l m out : List ℕ) (at n : ℕ) → at + 4 ≤ length l →
+    m ≡ over l at (bytes16 (n / 65536)) → out ≡ over m (at + 2) (bytes16 (n % 65536)) → out ≡ over l at (bytes32 n)
+put-halves l m out at n h w₁ w₂ =
+    w₂ ∙ over-then l m (bytes16 (n / 65536)) (bytes16 (n % 65536)) at (at + 2) (omega arith) refl w₁
 
 -- ---- Derived
 

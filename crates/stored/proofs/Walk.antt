@@ -10,7 +10,7 @@ use lib.ListN.{length, getD, drop}
 use lib.Seq.{getD-drop}
 use Rattle.table.specs.Row.{recordLength, noEntry}
 use Rattle.stored.specs.Layout.{headLength}
-use Rattle.stored.specs.Found.{number32, timeIn, entryIn, recordsIn}
+use Rattle.stored.specs.Found.{number16, number32, timeIn, entryIn, recordsIn}
 
 -- ---- Core laws
 
@@ -20,11 +20,14 @@ records-length width zero bs = refl
 records-length width (suc count) bs = ap suc (records-length width count (drop width bs))
 
 -- what stands behind the first bytes stands that much further on
+half-behind : (n : ℕ) (bs : List ℕ) (at : ℕ) → number16 (drop n bs) at ≡ number16 bs (n + at)
+half-behind n bs at = rw (getD-drop n bs at 0, getD-drop n bs (at + 1) 0) (rw (add-assoc n at 1))
+
 number-behind : (n : ℕ) (bs : List ℕ) (at : ℕ) → number32 (drop n bs) at ≡ number32 bs (n + at)
 unfolding number32
 number-behind n bs at =
-    rw (getD-drop n bs at 0, getD-drop n bs (at + 1) 0, getD-drop n bs (at + 2) 0, getD-drop n bs (at + 3) 0)
-    (rw (add-assoc n at 1, add-assoc n at 2, add-assoc n at 3))
+    let e : n + (at + 2) ≡ n + at + 2 = omega arith in
+    λ i. half-behind n bs at i * 65536 + (half-behind n bs (at + 2) ∙ ap (number16 bs) e) i
 
 time-behind : (n : ℕ) (bs : List ℕ) (at : ℕ) → timeIn (drop n bs) at ≡ timeIn bs (n + at)
 time-behind n bs at =

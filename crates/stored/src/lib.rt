@@ -56,15 +56,13 @@ fn put16(out: &mut [u8], at: usize, n: u16)
     out[at + 1] = (n % 256) as u8;
 }
 
-// Writes n at `at`, most significant byte first.
+// Writes n at `at`, its upper half first.
 fn put32(out: &mut [u8], at: usize, n: u32)
     requires { ⌜ at + 4 ≤ length (now out) ⌝ }
     ensures { λ _. ⌜ now (out .exit) ≡ over (now (out .entry)) at (bytes32 n) ⌝ }
 {
-    out[at] = (n / 16777216) as u8;
-    out[at + 1] = (n / 65536 % 256) as u8;
-    out[at + 2] = (n / 256 % 256) as u8;
-    out[at + 3] = (n % 256) as u8;
+    put16(out, at, (n / 65536) as u16);
+    put16(out, at + 2, (n % 65536) as u16);
 }
 
 // Writes a time in lowest terms.
@@ -155,10 +153,7 @@ fn get32(bytes: &[u8], at: usize) -> u32
     requires { ⌜ at + 4 ≤ length (now bytes) ⌝ }
     ensures { λ r. ⌜ r ≡ number32 (now (bytes .entry)) at ⌝ }
 {
-    wide(bytes[at]) * 16777216
-        + wide(bytes[at + 1]) * 65536
-        + wide(bytes[at + 2]) * 256
-        + wide(bytes[at + 3])
+    get16(bytes, at) * 65536 + get16(bytes, at + 2)
 }
 
 // The fraction that stands at `at`.

@@ -1,65 +1,42 @@
--- `put32` meets its contract: four stores, one behind the other.
+-- `put32` meets its contract: the upper half, and the lower half behind it.
 -- Assumes nothing.
-use native.Mathlib.Omega.{arith}
-use lib.ListN.{length-set}
-use Rattle.stored.proofs.Stores.{four}
+use Rattle.stored.proofs.Stores.{put-halves}
 use borrow.Author.Needs.{needs}
 use Rattle.stored.proofs.put32.Statement.{statement}
 use Rattle.stored.proofs.put32.Tie as tie
 
-cast-out : tie.Need-cast-out
-cast-out c = search needs
+cast-put16 : tie.Need-cast-put16
+cast-put16 c = search needs
 
-slice-write-out : tie.Need-slice-write-out
-slice-write-out c = search needs
+put16-requires : tie.Need-put16-requires
+put16-requires c κs = search needs
 
-cast-out-2 : tie.Need-cast-out-2
-cast-out-2 c = search needs
+add-put16 : tie.Need-add-put16
+add-put16 c = search needs
 
-add-out : tie.Need-add-out
-add-out c = search needs
+cast-put16-2 : tie.Need-cast-put16-2
+cast-put16-2 c = search needs
 
-slice-write-out-2 : tie.Need-slice-write-out-2
-slice-write-out-2 c = simp length-set (omega arith)
-
-cast-out-3 : tie.Need-cast-out-3
-cast-out-3 c = search needs
-
-add-out-2 : tie.Need-add-out-2
-add-out-2 c = search needs
-
-slice-write-out-3 : tie.Need-slice-write-out-3
-slice-write-out-3 c = simp length-set (omega arith)
-
-cast-out-4 : tie.Need-cast-out-4
-cast-out-4 c = search needs
-
-add-out-3 : tie.Need-add-out-3
-add-out-3 c = search needs
-
-slice-write-out-4 : tie.Need-slice-write-out-4
-slice-write-out-4 c = simp length-set (omega arith)
+put16-requires-2 : tie.Need-put16-requires-2
+put16-requires-2 c κs = search needs
 
 same-length : tie.Need-same-length
 same-length c = search needs
 
 returns : tie.Need-returns
-returns c = four _ _ _ _ _ _ (c .pre)
+returns c =
+    let second = c .before .before in
+    let first = second .before .before .before .before in
+    put-halves _ _ _ _ _ (first .before .before .before .pre) (first .put16 .ensures) (second .put162 .ensures)
 
 pub put32-spec : {M : Type 1} → statement M
 put32-spec =
     tie.close
     (tie.spec
-    cast-out
-    slice-write-out
-    cast-out-2
-    add-out
-    slice-write-out-2
-    cast-out-3
-    add-out-2
-    slice-write-out-3
-    cast-out-4
-    add-out-3
-    slice-write-out-4
+    cast-put16
+    put16-requires
+    add-put16
+    cast-put16-2
+    put16-requires-2
     same-length
     returns)
