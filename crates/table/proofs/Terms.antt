@@ -112,17 +112,17 @@ entry-lowest i e =
         ∙ sym (ap (λ (d : Bool). threeTests i d (noTime e) (above (e .duration) (e .period))) q)
     go false q = ap (threeTests i (noDenominator e) (noTime e)) (above-lowest-entry e q)
 
-long-lowest : (tick : Fraction) (i : ℕ) (e : Entry) → ticksCheck tick i (lowestEntry e) ≡ ticksCheck tick i e
+long-lowest : (unit : Fraction) (i : ℕ) (e : Entry) → ticksCheck unit i (lowestEntry e) ≡ ticksCheck unit i e
 unfolding ticksCheck tooLong
-long-lowest tick i e = rw (ticks-lowest (e .phase) tick, ticks-lowest (e .period) tick, ticks-lowest (e .duration) tick)
+long-lowest unit i e = rw (ticks-lowest (e .phase) unit, ticks-lowest (e .period) unit, ticks-lowest (e .duration) unit)
 
 denominators-lowest : (es : List Entry) → denominators (map lowestEntry es) ≡ denominators es
 unfolding denominators
 denominators-lowest [] = refl
 denominators-lowest (e ∷ es) = rw (lowest-twice (e .phase), lowest-twice (e .period), lowest-twice (e .duration), denominators-lowest es)
 
-train-lowest : (tick : Fraction) (e : Entry) → trainOf tick (lowestEntry e) ≡ trainOf tick e
-train-lowest tick e = rw (ticks-lowest (e .phase) tick, ticks-lowest (e .period) tick, ticks-lowest (e .duration) tick)
+train-lowest : (unit : Fraction) (e : Entry) → trainOf unit (lowestEntry e) ≡ trainOf unit e
+train-lowest unit e = rw (ticks-lowest (e .phase) unit, ticks-lowest (e .period) unit, ticks-lowest (e .duration) unit)
 
 -- ---- The whole reading
 
@@ -150,9 +150,9 @@ multiple-lowest es =
     (ap denominators (take-lowest (suc i) es) ∙ denominators-lowest (take (suc i) es)))))
     ∙ first-lowest (multipleCheck es) (λ i e. refl) 0 es
 
-trains-lowest : (tick : Fraction) (es : List Entry) → map (trainOf tick) (map lowestEntry es) ≡ map (trainOf tick) es
-trains-lowest tick [] = refl
-trains-lowest tick (e ∷ es) = λ j. train-lowest tick e j ∷ trains-lowest tick es j
+trains-lowest : (unit : Fraction) (es : List Entry) → map (trainOf unit) (map lowestEntry es) ≡ map (trainOf unit) es
+trains-lowest unit [] = refl
+trains-lowest unit (e ∷ es) = λ j. train-lowest unit e j ∷ trains-lowest unit es j
 
 -- the reading of a row, of its length and its entries
 readingOf : ℕ → List Entry → Reading

@@ -10,13 +10,13 @@
 --     multipleCheck es i e    refusal 5 of the train at position i
 --     multipleChecked es      refusal 5 of a table
 --     tooMany ticks           whether a time is not within the limit
---     tooLong tick e          whether a train has such a time
---     ticksCheck tick i e     refusal 6 of the train at position i
---     ticksChecked tick es    refusal 6 of a table
+--     tooLong unit e          whether a train has such a time
+--     ticksCheck unit i e     refusal 6 of the train at position i
+--     ticksChecked unit es    refusal 6 of a table
 --     refusal row             refusals 1 to 6
 --     noTrain                 what stands in the array where there is no train
 --     filled ts               the array of some trains
---     tableOf tick es         the table of some trains as fractions
+--     tableOf unit es         the table of some trains as fractions
 --     refused r               what is read after a refusal
 --     readAfter o table       a table, or the refusal that there is
 --     reading row             the table of a row, as `read` answers it
@@ -99,16 +99,16 @@ tooMany (Whole k) = ltb maxTicks k
 
 -- Whether a time of a train is so.
 unfoldable pub tooLong : Fraction → Entry → Bool
-tooLong tick e =
-    tooMany (wholeTicks (e .phase) tick) || (tooMany (wholeTicks (e .period) tick) || tooMany (wholeTicks (e .duration) tick))
+tooLong unit e =
+    tooMany (wholeTicks (e .phase) unit) || (tooMany (wholeTicks (e .period) unit) || tooMany (wholeTicks (e .duration) unit))
 
 -- Refusal 6 of one train.
 unfoldable pub ticksCheck : Fraction → ℕ → Entry → Outcome
-ticksCheck tick i e = test (tooLong tick e) (TimeTooLong i)
+ticksCheck unit i e = test (tooLong unit e) (TimeTooLong i)
 
 -- Refusal 6, at the first train with a time above the limit.
 abbrev pub ticksChecked : Fraction → List Entry → Outcome
-ticksChecked tick es = firstRefusal (ticksCheck tick) 0 es
+ticksChecked unit es = firstRefusal (ticksCheck unit) 0 es
 
 -- 1; then train by train 2, 3, 4; then 5 over the table; then 6.
 unfoldable pub refusal : List ℕ → Outcome
@@ -124,7 +124,7 @@ filled ts = ts ++ replicate (capacity - length ts) noTrain
 
 -- The table of some trains as fractions.
 abbrev pub tableOf : Fraction → List Entry → Table
-tableOf tick es = record { tick = tick; count = length es; trains = filled (map (trainOf tick) es) }
+tableOf unit es = record { tick = unit; count = length es; trains = filled (map (trainOf unit) es) }
 
 -- After a refusal: a table without a train.
 abbrev pub refused : Refusal → Reading

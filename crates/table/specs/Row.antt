@@ -17,10 +17,10 @@
 --     multiple es             the paper's L
 --     tick es                 the common tick, 1/L ms
 --     whole ticks             the number of a whole number of ticks
---     ticksOf tick time       how many ticks a time is
---     trainOf tick e          a train in ticks
+--     ticksOf unit time       how many ticks a time is
+--     trainOf unit e          a train in ticks
 --     trains row              the trains of a row in ticks of its own tick
---     ExactTrain tick e t     train t is entry e in ticks, with nothing lost
+--     ExactTrain unit e t     train t is entry e in ticks, with nothing lost
 --     SameTime f h            two fractions stand for one time
 --     SameEntry e f           two trains whose times are the same
 --     SameRow row row′        two rows that differ at most in the terms of their fractions
@@ -115,23 +115,23 @@ whole NotWhole = 0
 whole (Whole k) = k
 
 -- A time in ticks. (In a table that passes every time is a whole number of them: `trains-exact`.)
-abbrev pub ticksOf : (tick time : Fraction) → ℕ
-ticksOf tick time = whole (wholeTicks time tick)
+abbrev pub ticksOf : (unit time : Fraction) → ℕ
+ticksOf unit time = whole (wholeTicks time unit)
 
 -- A train in ticks.
 abbrev pub trainOf : Fraction → Entry → Train
-trainOf tick e =
-    record { phase = ticksOf tick (e .phase); period = ticksOf tick (e .period); duration = ticksOf tick (e .duration) }
+trainOf unit e =
+    record { phase = ticksOf unit (e .phase); period = ticksOf unit (e .period); duration = ticksOf unit (e .duration) }
 
 -- The trains of a row in ticks.
 unfoldable pub trains : List ℕ → List Train
 trains row = map (trainOf (tick (entries row))) (entries row)
 
 -- The ticks of a train are its times, with nothing lost.
-pub record ExactTrain (tick : Fraction) (e : Entry) (t : Train) : Type 0 where
-  pub phase : IsTicks (e .phase) tick (t .phase)
-  pub period : IsTicks (e .period) tick (t .period)
-  pub duration : IsTicks (e .duration) tick (t .duration)
+pub record ExactTrain (unit : Fraction) (e : Entry) (t : Train) : Type 0 where
+  pub phase : IsTicks (e .phase) unit (t .phase)
+  pub period : IsTicks (e .period) unit (t .period)
+  pub duration : IsTicks (e .duration) unit (t .duration)
 
 -- The same fraction as it stands, or two that have denominators and are one number.
 abbrev pub SameTime : Fraction → Fraction → Type 0
