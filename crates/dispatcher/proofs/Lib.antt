@@ -1,5 +1,9 @@
--- The laws of dispatcher. Places: the lowest place that passes a test. Counts: hardware counts that wrap. Answers: one law for
--- each way through the calls.
+-- The laws of dispatcher. Promises gathers what specs/Promises.antt states; callers cite the others.
 pub mod Places
 pub mod Counts
 pub mod Answers
+pub mod Strokes
+pub mod Histories
+pub mod Keeping
+pub mod Refining
+pub mod Answered
