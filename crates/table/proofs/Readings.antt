@@ -12,6 +12,7 @@ use lib.ListN.{length, getD, take, length-map}
 use lib.Seq.{take-all}
 use Rattle.refusal.specs.declared.Refusal.{Refusal}
 use Rattle.refusal.specs.Order.{inTurn, None}
+use Rattle.refusal.proofs.Orders.{none-of-both, none-each}
 use Rattle.fraction.specs.declared.Fraction.{Fraction}
 use Rattle.fraction.specs.declared.Ticks.the-variants.{Whole}
 use Rattle.fraction.specs.declared.Multiple.the-variants.{Within}
@@ -30,7 +31,6 @@ use Rattle.table.specs.Given.{checkedOrder, multipleChecks, longChecks}
 use Rattle.table.specs.Answer.{orElse, checked, multipleChecked, ticksChecked, refusal, noTrain, tableOf, refused, readAfter, reading}
 use Rattle.table.specs.Inside.{readTicks}
 use Rattle.table.proofs.Entries.{entries-few}
-use Rattle.table.proofs.InOrder.{none-of-both, none-each}
 use Rattle.table.proofs.Following.{AllSound, not-above, checked-follows, checked-sound, checked-length}
 use Rattle.table.proofs.Limits.{multiple-pos, ticks-at, refusal-follows}
 
@@ -124,7 +124,7 @@ module _ (row : List ℕ) where
     unfolding None
     passed-limit =
         all-within (entries row)
-        (λ i h. not-above (none-each (multipleChecks (entries row)) (entries row) (passed-none e .0 .1) i h .0))
+        (λ i h. not-above (none-each noEntry (multipleChecks (entries row)) (entries row) (passed-none e .0 .1) i h .0))
 
     pub passed-few : length (entries row) ≤ capacity
     passed-few = entries-few row (checked-length row (passed-checked e))
@@ -150,7 +150,7 @@ module _ (row : List ℕ) where
       limits-entry =
           let s = passed-sound e i h in
           let x = exact-entry in
-          let short = none-each (longChecks (tick (entries row))) (entries row) (passed-none e .1) i h .0 in
+          let short = none-each noEntry (longChecks (tick (entries row))) (entries row) (passed-none e .1) i h .0 in
           let l = multiple-pos (entries row) (passed-sound e) in
           let above = above-ticks _ _ (tick (entries row)) _ _ (s .duration) (s .period) (omega arith) l (x .duration) (x .period) in
           record {
