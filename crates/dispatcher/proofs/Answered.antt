@@ -1,25 +1,24 @@
 -- Every call on a record that keeps a history is answered rightly, and the record after it keeps the history after it; so the log
 -- of a record is the one right log of its calls. Core: answered, log-right, log-only. The rest follows from these.
 -- Assumes nothing.
-use Prim.Native.Nat.{ℕ, suc, _+_, _<_, _≤_}
+use Prim.Native.Nat.{ℕ, _<_, _≤_}
 use mathlib.Core.Path.{_≡_, refl, sym, ap, subst, _∙_}
 use mathlib.Core.Bool.{Bool, true, false}
 use mathlib.Core.Logic.{_↔_, _⊎_, inl, inr, ⊎-elim}
 use mathlib.Core.List.{List, [], _∷_, map}
-use mathlib.Core.Option.{Option, none, some}
+use mathlib.Core.Option.{none, some}
 use mathlib.Mathlib.Data.Bool.Basic.{eq-false-eq-not-eq-true}
 use native.Mathlib.Nat.{lt-of-not-le}
-use native.Mathlib.Decide.{decLe, decLt}
+use native.Mathlib.Decide.{decLe}
 use native.Mathlib.Omega.{arith}
-use lib.ListN.{length, getD, set}
+use lib.ListN.{set}
 use Rattle.refusal.specs.declared.Refusal.the-variants.{NotATrain, NoEmptyPlace, Collision, NoTrainThere, WrongCount}
 use Rattle.refusal.specs.Order.{None, First}
 use Rattle.refusal.proofs.Orders.{each-none, first-each}
 use Rattle.train.specs.declared.Train.{Train}
-use Rattle.train.specs.Claims.{maxTicks, Strict, Limits, Claims, Least}
+use Rattle.train.specs.Claims.{maxTicks, Strict, Limits, Least}
 use Rattle.train.specs.Answer.{withinLimits}
 use Rattle.train.proofs.Limits.{limits-is}
-use Rattle.dispatcher.specs.declared.Held.{Held}
 use Rattle.dispatcher.specs.declared.Dispatcher.{Dispatcher}
 use Rattle.dispatcher.specs.declared.Sought.the-variants as sought
 use Rattle.dispatcher.specs.declared.Admission.{Admission}
@@ -31,14 +30,14 @@ use Rattle.dispatcher.specs.declared.Tick.the-variants as tick
 use Rattle.dispatcher.specs.declared.Admitted.{Admitted}
 use Rattle.dispatcher.specs.declared.Withdrew.{Withdrew}
 use Rattle.dispatcher.specs.declared.Stepped.{Stepped}
-use Rattle.dispatcher.specs.Calls.{Call, admit, withdraw, step, idle, starts, goes-on, Event, admitted, withdrawn, stepped, refused, callOf}
-use Rattle.dispatcher.specs.History.{placeCount, following, History, beginning, heldBy, At, EmptyAt, arriving, Begins, Meets, OutOfLimits, meetingCheck, order, Does, Right, becomes, Rights, after}
-use Rattle.dispatcher.specs.Answer.{isSought, lowest, heldAt, nextCount, placeFor, put, admission, withdrawal, stepping, fresh}
-use Rattle.dispatcher.specs.Played.{admissionEvent, withdrawalEvent, tickEvent, eventOf, next, logOf, reached}
+use Rattle.dispatcher.specs.Calls.{Call, admit, withdraw, step, idle, Event, callOf}
+use Rattle.dispatcher.specs.History.{placeCount, following, History, heldBy, At, EmptyAt, arriving, Begins, Meets, OutOfLimits, meetingCheck, order, Does, Right, becomes, Rights}
+use Rattle.dispatcher.specs.Answer.{isSought, lowest, heldAt, nextCount, placeFor, put, admission, withdrawal, stepping}
+use Rattle.dispatcher.specs.Played.{admissionEvent, withdrawalEvent, tickEvent, eventOf, next, logOf}
 use Rattle.dispatcher.proofs.Answers.{admission-not-a-train, admission-no-place, admission-collides, admission-placed, withdrawal-none, withdrawal-outside, withdrawal-done, stepping-wrong, stepping-goes-on, stepping-starts, stepping-idle}
 use Rattle.dispatcher.proofs.Strokes.{claims-either}
-use Rattle.dispatcher.proofs.Histories.{same-or-not, Sound, sound-beginning, sound-becomes, in-limits, right-only}
-use Rattle.dispatcher.proofs.Keeping.{Keeps, keeps-beginning, inside, place-empty, place-due, place-meets, lowest-found, none-found}
+use Rattle.dispatcher.proofs.Histories.{same-or-not, Sound, sound-becomes, right-only}
+use Rattle.dispatcher.proofs.Keeping.{Keeps, inside, place-empty, place-due, place-meets, lowest-found, none-found}
 use Rattle.dispatcher.proofs.Refining.{keeps-admitted, keeps-withdrawn, keeps-idle, keeps-goes-on, keeps-starts}
 
 -- ---- The limits of an admission
@@ -56,7 +55,7 @@ out-of-limits delay period duration f = go (decLe 1 period) (decLe period maxTic
     go (yes p) (yes q) (yes r) (yes s) (no t) = inr (inr (inr (inr (lt-of-not-le t))))
     go (yes p) (yes q) (yes r) (yes s) (yes t) = absurd (f (record { strict = record { some = r; fits = s }; period = q; phase = t }))
 
-within-limits : (delay period duration : ℕ) → Limits (record { phase = delay; period = period; duration = duration }) → OutOfLimits delay period duration → ⊥
+pub within-limits : (delay period duration : ℕ) → Limits (record { phase = delay; period = period; duration = duration }) → OutOfLimits delay period duration → ⊥
 within-limits delay period duration l =
     ⊎-elim (λ z. omega (arith, l .strict .some, l .strict .fits))
     (⊎-elim (λ k. omega (arith, l .period))

@@ -1,24 +1,23 @@
 -- The laws of histories: what is so of every history that right answers lead to, and that a call has one right answer.
 -- Core: sound-beginning, sound-becomes, right-only. The rest follows from these.
 -- Assumes nothing.
-use Prim.Native.Nat.{ℕ, suc, _+_, _<_, _≤_}
+use Prim.Native.Nat.{ℕ, suc, _<_, _≤_}
 use mathlib.Core.Path.{_≡_, refl, sym, ap, subst, _∙_}
-use mathlib.Core.Logic.{_↔_, _⊎_, inl, inr, ⊎-elim}
-use mathlib.Core.List.{List, [], _∷_}
+use mathlib.Core.Logic.{_⊎_, inl, inr, ⊎-elim}
+use mathlib.Core.List.{List}
 use mathlib.Core.Option.{Option, none, some, Option·some-injective, Option·none-ne-some}
 use native.Mathlib.Nat.{pos-of-ne-zero, lt-of-not-le}
 use native.Mathlib.Decide.{decLe, decLt}
 use native.Mathlib.Omega.{arith}
-use lib.ListN.{length, getD, set, length-set, replicate, length-replicate, getD-replicate, List·getD-eq-default}
+use lib.ListN.{length, getD, set, length-set, length-replicate, getD-replicate, List·getD-eq-default}
 use lib.Seq.{getD-set-same, getD-set-other}
-use Rattle.refusal.specs.declared.Refusal.{Refusal}
 use Rattle.refusal.specs.Paper.{Printed, paper}
-use Rattle.refusal.specs.Order.{Check, None, First}
+use Rattle.refusal.specs.Order.{None}
 use Rattle.refusal.proofs.Orders.{first-only, first-not-none, none-each}
 use Rattle.train.specs.declared.Train.{Train}
-use Rattle.train.specs.Claims.{maxTicks, Strict, Claims, Both, Least}
-use Rattle.dispatcher.specs.Calls.{Call, admit, withdraw, step, Doing, idle, starts, goes-on, Event, admitted, withdrawn, stepped, refused, callOf}
-use Rattle.dispatcher.specs.History.{placeCount, following, History, beginning, heldBy, At, EmptyAt, arriving, Begins, Continues, Meets, OutOfLimits, meetingCheck, order, Does, Right, becomes, Rights, after}
+use Rattle.train.specs.Claims.{maxTicks, Strict, Claims, Least}
+use Rattle.dispatcher.specs.Calls.{Call, Doing, idle, starts, goes-on, Event, admitted, withdrawn, stepped, refused, callOf}
+use Rattle.dispatcher.specs.History.{placeCount, History, beginning, At, arriving, Begins, OutOfLimits, meetingCheck, order, Does, Right, becomes}
 use Rattle.dispatcher.proofs.Strokes.{begins-claims, continues-claims, begins-not-continues}
 
 -- ---- Places

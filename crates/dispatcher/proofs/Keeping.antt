@@ -1,19 +1,17 @@
 -- What a record has to do with a history: it keeps it, and what is sought among its places is what the history says of them.
 -- Core: keeps-beginning, place-empty, place-due, place-meets, lowest-found, none-found.
 -- Assumes nothing.
-use Prim.Native.Nat.{ℕ, suc, _+_, _-_, _%_, _^_, _<_, _≤_}
+use Prim.Native.Nat.{ℕ, _+_, _-_, _%_, _^_, _<_, _≤_}
 use mathlib.Core.Path.{_≡_, refl, sym, ap, subst, _∙_}
 use mathlib.Core.Bool.{Bool, true, false, not, false≢true}
-use mathlib.Core.Logic.{_↔_, _⊎_, inl, inr, ⊎-elim}
-use mathlib.Core.List.{List}
-use mathlib.Core.Option.{Option, none, some, Option·some-injective, Option·none-ne-some, Option·some-ne-none}
-use mathlib.Mathlib.Data.Bool.Basic.{eq-false-eq-not-eq-true}
+use mathlib.Core.Logic.{_↔_, _⊎_, inl, ⊎-elim}
+use mathlib.Core.Option.{Option, none, some, Option·none-ne-some}
 use native.Mathlib.Omega.{arith}
 use lib.Dec.{eqb}
-use lib.ListN.{length, getD, replicate, length-replicate, getD-replicate}
+use lib.ListN.{length, length-replicate, getD-replicate}
 use borrow.Author.Tests.{eq-eqb, eqb-true, not-true}
 use Rattle.train.specs.declared.Train.{Train}
-use Rattle.train.specs.Claims.{maxTicks, Strict, Both, Collide, Least}
+use Rattle.train.specs.Claims.{maxTicks, Strict, Both, Least}
 use Rattle.train.specs.Answer.{free}
 use Rattle.train.proofs.Test.{collides-iff}
 use Rattle.dispatcher.specs.declared.Placed.{Placed}

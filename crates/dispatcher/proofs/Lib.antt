@@ -7,3 +7,9 @@ pub mod Histories
 pub mod Keeping
 pub mod Refining
 pub mod Answered
+pub mod Logs
+pub mod Counting
+pub mod Shares
+pub mod Admissions
+pub mod Unchanged
+pub mod Promises

@@ -4,31 +4,29 @@
 use Prim.Native.Nat.{ℕ, suc, _+_, _-_, _%_, _^_, _<_, _≤_}
 use mathlib.Core.Path.{_≡_, refl, sym, ap, subst, _∙_}
 use mathlib.Core.Bool.{Bool, true, false, cond}
-use mathlib.Core.Logic.{_↔_, _⊎_, inl, inr, ⊎-elim}
-use mathlib.Core.List.{List, []}
+use mathlib.Core.Logic.{_⊎_, inl, inr, ⊎-elim}
 use mathlib.Core.Option.{Option, none, some, Option·some-injective, Option·none-ne-some}
 use native.Mathlib.Nat.{zero-mod, lt-of-not-le, pos-of-ne-zero}
 use native.Mathlib.Decide.{decLe}
 use native.Mathlib.Omega.{arith}
 use lib.Dec.{eqb}
-use lib.ListN.{length, getD, set, length-set}
+use lib.ListN.{getD, set, length-set}
 use lib.Seq.{getD-set-same, getD-set-other}
 use borrow.Author.Tests.{eqb-true, eqb-false}
 use Rattle.train.specs.declared.Train.{Train}
-use Rattle.train.specs.Claims.{maxTicks, Strict, Claims}
+use Rattle.train.specs.Claims.{maxTicks, Strict}
 use Rattle.dispatcher.specs.declared.Placed.{Placed}
-use Rattle.dispatcher.specs.declared.Held.{Held}
-use Rattle.dispatcher.specs.declared.Held.the-variants.{Empty, Holds}
+use Rattle.dispatcher.specs.declared.Held.the-variants.{Holds}
 use Rattle.dispatcher.specs.declared.Place.{Place}
 use Rattle.dispatcher.specs.declared.Run.{Run}
 use Rattle.dispatcher.specs.declared.Dispatcher.{Dispatcher}
-use Rattle.dispatcher.specs.Calls.{Doing, idle, starts, goes-on, Event, admitted, withdrawn, stepped, refused}
+use Rattle.dispatcher.specs.Calls.{idle}
 use Rattle.dispatcher.specs.History.{placeCount, following, History, heldBy, At, EmptyAt, arriving, Begins, Continues, Does}
 use Rattle.dispatcher.specs.Answer.{emptyPlace, heldAt, put, placeFor, ended, startedHeld, startedPlace, restOf, starting}
 use Rattle.dispatcher.proofs.Strokes.{NextStroke, Running, Ran, begins-claims, continues-claims, begins-not-continues, continues-before, started-ran, running-ran, run-on, run-over, stroke-here, stroke-now, stroke-nearer, stroke-again, stroke-first}
-use Rattle.dispatcher.proofs.Histories.{at-inside, at-one, same-or-not, Sound, at-put, putting, claims-one}
+use Rattle.dispatcher.proofs.Histories.{at-one, same-or-not, Sound, at-put, putting, claims-one}
 use Rattle.dispatcher.proofs.Counts.{following-small, following-on}
-use Rattle.dispatcher.proofs.Keeping.{KeepsTrain, KeepsHeld, KeepsRun, Keeps, inside, kept}
+use Rattle.dispatcher.proofs.Keeping.{KeepsTrain, KeepsHeld, KeepsRun, Keeps, kept}
 
 module _ (d : Dispatcher) (h : History) (sound : Sound h) (keeps : Keeps d h) where
   -- ---- Another place

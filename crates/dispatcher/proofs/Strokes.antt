@@ -1,8 +1,8 @@
 -- The laws of strokes and runs of one train, and when two trains meet from a tick on; ticks alone, no calls.
 -- Core: claims-either, continues-before, run-on, run-over, stroke-now, stroke-again, seen-claims, meets-seen.
 -- Assumes nothing.
-use Prim.Native.Nat.{ℕ, zero, suc, _+_, _*_, _-_, _/_, _%_, _<_, _≤_, _∣_}
-use mathlib.Core.Path.{_≡_, refl, sym, ap, subst, _∙_}
+use Prim.Native.Nat.{ℕ, zero, suc, _+_, _*_, _-_, _/_, _%_, _<_, _≤_}
+use mathlib.Core.Path.{_≡_, refl, sym, ap, _∙_}
 use mathlib.Core.Logic.{_↔_, _⊎_, inl, inr, ⊎-elim}
 use native.Mathlib.Nat.{mod-lt, mod-eq-of-lt, mod-self, dvd-of-mod-eq-zero, dvd-mul-left, dvd-mul-right, dvd-mul-left-of-dvd, div-add-mod', mul-add-mod-self-left, mul-pos, le-mul-of-pos-right, eq-or-lt-of-le, add-zero, sub-self, zero-mod}
 use native.Mathlib.Omega.{arith}

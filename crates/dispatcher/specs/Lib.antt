@@ -6,3 +6,5 @@ pub mod History
 pub mod Share
 pub mod Answer
 pub mod Played
+pub mod Tables
+pub mod Promises
