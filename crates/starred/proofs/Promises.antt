@@ -13,8 +13,11 @@ use Rattle.stored.specs.Layout.{bytesOf}
 use Rattle.stored.specs.Found.{number32, recordsIn}
 use Rattle.stored.specs.Answer.{saveCheck, savedIn, hasMark, headCheck, timeCheck, storedCheck, loadCheck}
 use Rattle.file.specs.Answer.{verdictAfter}
+use Rattle.dispatcher.specs.Answer.{wait, isSought, admission, withdrawal, stepping}
+use Rattle.dispatcher.specs.Answer as dispatcher
+use Rattle.dispatcher.specs.Played.{eventOf, next, logOf}
 use Rattle.starred.specs.Promises.{Promises}
 
 pub promises : Promises
-unfolding verdict refusal checked entries entriesOf denominators trains noDenominator noTime firstRefusal entryCheck tooLong ticksCheck lowest wholeTicks commonMultiple running runningFrom scan pairsWith pairsFrom withinLimits expression free claims both firstFrom earliest euclidWithin euclid gcd divisions lcm isLowest flatMap bytesOf number32 recordsIn saveCheck savedIn hasMark headCheck timeCheck storedCheck loadCheck verdictAfter
-promises = record { sheet-judged = refl; sheet-stored = (refl, refl); sheet-file = refl }
+unfolding verdict refusal checked entries entriesOf denominators trains noDenominator noTime firstRefusal entryCheck tooLong ticksCheck lowest wholeTicks commonMultiple running runningFrom scan pairsWith pairsFrom withinLimits expression free claims both firstFrom earliest euclidWithin euclid gcd divisions lcm isLowest flatMap bytesOf number32 recordsIn saveCheck savedIn hasMark headCheck timeCheck storedCheck loadCheck verdictAfter wait isSought dispatcher.lowest admission withdrawal stepping eventOf next logOf
+promises = record { sheet-judged = refl; sheet-stored = (refl, refl); sheet-file = refl; sheet-played = refl }

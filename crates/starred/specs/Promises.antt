@@ -7,7 +7,9 @@ use Rattle.judge.specs.Answer.{verdict}
 use Rattle.stored.specs.declared.Saved.the-variants as saves
 use Rattle.stored.specs.Answer.{saved, savedIn}
 use Rattle.file.specs.Answer.{fileVerdict}
-use Rattle.starred.specs.Sheet.{Line, sheet, thirteenths, thirteenthsBytes}
+use Rattle.dispatcher.specs.Answer.{fresh}
+use Rattle.dispatcher.specs.Played.{logOf}
+use Rattle.starred.specs.Sheet.{Line, sheet, thirteenths, thirteenthsBytes, paragraph, answers}
 
 pub record Promises : Type 0 where
   -- V7. The starred rows of the bench sheet, one list, one theorem: the verdict on every row is the printed one.
@@ -17,3 +19,5 @@ pub record Promises : Type 0 where
       (saved thirteenths 55 ≡ saves.Length (length thirteenthsBytes))
       × (savedIn (saves.Length 55) thirteenths (replicate 55 0) ≡ thirteenthsBytes)
   pub sheet-file : paper (fileVerdict thirteenthsBytes) ≡ accept 13 1
+  -- The dispatcher's paragraph: the calls are answered as printed.
+  pub sheet-played : logOf (fresh 4_294_967_295) paragraph ≡ answers

@@ -1,13 +1,16 @@
--- The starred rows of the paper's bench sheet, in its order, and the bytes of its 36/13 table.
+-- The starred rows of the paper's bench sheet, in its order, the bytes of its 36/13 table, and its paragraph on the dispatcher.
 --     Line                    a table, and what the paper prints for it
 --     whole p P d             a train of whole milliseconds: phase, period, duration
 --     parts m p P d           a train whose times are all over the denominator m
 --     thirteenths             the row of the 36/13 table
 --     sheet                   the starred rows
 --     thirteenthsBytes        the bytes in which the 36/13 table is stored
+--     paragraph               the calls of the dispatcher's paragraph, after its fresh start
+--     answers                 what they are answered
 use Prim.Native.Nat.{ℕ}
 use mathlib.Core.List.{List, [], _∷_, _++_}
 use Rattle.judge.specs.Paper.{Shown, accept, collide, refuse}
+use Rattle.dispatcher.specs.Calls.{Call, admit, step, starts, Event, admitted, stepped, refused}
 
 -- A table as a row, and what is printed for it.
 pub record Line : Type 0 where
@@ -49,3 +52,11 @@ thirteenthsBytes =
     83 ∷ 84 ∷ 84 ∷ 0 ∷ 1 ∷ 0 ∷ 2
     ∷ 0 ∷ 0 ∷ 0 ∷ 0 ∷ 0 ∷ 0 ∷ 0 ∷ 1 ∷ 0 ∷ 0 ∷ 0 ∷ 36 ∷ 0 ∷ 0 ∷ 0 ∷ 13 ∷ 0 ∷ 0 ∷ 0 ∷ 12 ∷ 0 ∷ 0 ∷ 0 ∷ 13
     ∷ 0 ∷ 0 ∷ 0 ∷ 12 ∷ 0 ∷ 0 ∷ 0 ∷ 13 ∷ 0 ∷ 0 ∷ 0 ∷ 72 ∷ 0 ∷ 0 ∷ 0 ∷ 13 ∷ 0 ∷ 0 ∷ 0 ∷ 12 ∷ 0 ∷ 0 ∷ 0 ∷ 13 ∷ []
+
+-- Admit (0,8,2); admit (3,12,1); the step with count 0; admit (0,4,1); admit (1,4,1).
+abbrev pub paragraph : List Call
+paragraph = admit 0 8 2 ∷ admit 3 12 1 ∷ step 0 ∷ admit 0 4 1 ∷ admit 1 4 1 ∷ []
+
+-- Place 0; place 1; starts place 0; refused 15 at place 0; takes place 2.
+abbrev pub answers : List Event
+answers = admitted 0 8 2 0 ∷ admitted 3 12 1 1 ∷ stepped 0 (starts 0) ∷ refused (admit 0 4 1) 15 0 ∷ admitted 1 4 1 2 ∷ []
