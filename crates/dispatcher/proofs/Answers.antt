@@ -3,15 +3,14 @@
 -- Assumes nothing.
 use Prim.Native.Nat.{ℕ, _-_, _%_, _+_, _^_, _<_, _≤_}
 use mathlib.Core.Path.{_≡_, sym, ap, subst, _∙_}
-use mathlib.Core.Bool.{true, false, not}
+use mathlib.Core.Bool.{true, false}
 use native.Mathlib.Omega.{arith}
 use lib.Dec.{eqb}
 use lib.ListN.{length, set, List·getD-eq-default}
 use borrow.Author.Tests.{lt-ltb, le-ltb, eq-eqb, ne-eqb}
 use Rattle.refusal.specs.declared.Refusal.the-variants.{NotATrain, NoEmptyPlace, Collision, NoTrainThere, WrongCount}
 use Rattle.train.specs.declared.Train.{Train}
-use Rattle.train.specs.declared.Pair.{Pair}
-use Rattle.train.specs.Answer.{withinLimits, pair, free}
+use Rattle.train.specs.Answer.{withinLimits}
 use Rattle.dispatcher.specs.declared.Placed.{Placed}
 use Rattle.dispatcher.specs.declared.Held.{Held}
 use Rattle.dispatcher.specs.declared.Held.the-variants.{Empty, Holds}
@@ -24,7 +23,7 @@ use Rattle.dispatcher.specs.declared.Admission.the-variants as admission
 use Rattle.dispatcher.specs.declared.Withdrawal.the-variants as withdrawals
 use Rattle.dispatcher.specs.declared.Tick.the-variants as ticks
 use Rattle.dispatcher.specs.History.{placeCount}
-use Rattle.dispatcher.specs.Answer.{seenFrom, soughtEmpty, isSought, lowest, emptyPlace, heldAt, refusedAdmission, nextCount, put, placeFor, admission, ended, withdrawal, startedHeld, startedPlace, starting, stepping}
+use Rattle.dispatcher.specs.Answer.{collides, soughtEmpty, isSought, lowest, emptyPlace, heldAt, refusedAdmission, nextCount, put, placeFor, admission, ended, withdrawal, startedHeld, startedPlace, starting, stepping}
 
 -- ---- What is sought
 
@@ -39,14 +38,9 @@ module _ (s : Sought) (p : Placed) where
   sought-due count e = sym (ap (λ (x : Sought). isSought x (Holds p)) e)
 
   pub sought-colliding :
-      (count : ℕ) (train seen : Train) (both : Pair) →
-      s ≡ sought.Colliding count train → seen ≡ seenFrom count p → both ≡ pair seen train →
-      not (both .free) ≡ isSought s (Holds p)
+      (count : ℕ) (train : Train) → s ≡ sought.Colliding count train → collides count train p ≡ isSought s (Holds p)
   unfolding isSought
-  sought-colliding count train seen both e seen-is both-is =
-      ap (λ (x : Pair). not (x .free)) both-is
-      ∙ ap (λ (x : Train). not (free x train)) seen-is
-      ∙ sym (ap (λ (x : Sought). isSought x (Holds p)) e)
+  sought-colliding count train e = sym (ap (λ (x : Sought). isSought x (Holds p)) e)
 
 -- and through that of a place
 module _ (s : Sought) (h : Held) where

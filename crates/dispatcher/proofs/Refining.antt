@@ -22,7 +22,7 @@ use Rattle.dispatcher.specs.declared.Run.{Run}
 use Rattle.dispatcher.specs.declared.Dispatcher.{Dispatcher}
 use Rattle.dispatcher.specs.Calls.{idle}
 use Rattle.dispatcher.specs.History.{placeCount, following, History, heldBy, At, EmptyAt, arriving, Begins, Continues, Does}
-use Rattle.dispatcher.specs.Answer.{emptyPlace, heldAt, put, placeFor, ended, startedHeld, startedPlace, restOf, starting}
+use Rattle.dispatcher.specs.Answer.{emptyPlace, heldAt, put, placeFor, ended, started, startedHeld, startedPlace, restOf, starting}
 use Rattle.dispatcher.proofs.Strokes.{NextStroke, Running, Ran, begins-claims, continues-claims, begins-not-continues, continues-before, started-ran, running-ran, run-on, run-over, stroke-here, stroke-now, stroke-nearer, stroke-again, stroke-first}
 use Rattle.dispatcher.proofs.Histories.{at-one, same-or-not, Sound, at-put, putting, claims-one}
 use Rattle.dispatcher.proofs.Counts.{following-small, following-on}
@@ -187,7 +187,7 @@ module _ (d : Dispatcher) (h : History) (sound : Sound h) (keeps : Keeps d h) wh
   -- a train that starts has its next stroke a period on
   started-train :
       (p : Placed) (a : Train) → Strict a → a .period ≤ maxTicks → KeepsTrain p a (following (h .last)) (h .steps) → Begins a (h .steps) →
-      KeepsTrain (record { next = (p .next + p .period) % 2 ^ 32; period = p .period; duration = p .duration }) a
+      KeepsTrain (started p) a
       (following (following (h .last))) (suc (h .steps))
   started-train p a strict short k b =
       let z : k .away ≡ 0 = stroke-now a strict (h .steps) (k .away) (k .stroke) b in

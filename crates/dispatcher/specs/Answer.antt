@@ -2,6 +2,9 @@
 -- Promises says what they have to do with the words of History.
 --     wait count next         the steps from the one with `count` to the one with `next`
 --     seenFrom count p        a placed train, its phase counted from the step with `count` on
+--     collides count train p  whether a placed train ever collides with another, whose phase is counted so too
+--     started p               a placed train after a start
+--     rest p                  how many ticks of its run follow the start
 --     soughtEmpty s           whether it is an empty place that is sought
 --     isSought s held         whether what a place holds is what is sought
 --     lowest test ps          the lowest of some places that passes a test, or how many they are
@@ -11,12 +14,15 @@
 --     refusedAdmission d r    a refused admission
 --     nextCount d             the count that the next step must have
 --     put d q place           the record with another place q
+--     placeFor count train    the place of a train that arrives
+--     admissionTo d train empty met    an admission, by the lowest empty place and the lowest that collides
 --     admission d train       what `admit` answers, the delay being the train's phase
 --     ended run q             the run in progress after a withdrawal from q
 --     withdrawal d q          what `withdraw` answers
 --     startedHeld, startedPlace    a place after a start of its train
---     restOf held             how many ticks of a run follow its start
+--     restOf held             how many ticks of a run follow the start, where a place holds a train
 --     starting d q            what `step` answers where the train at q is due
+--     ticking d due           what a step with the right count answers, by the lowest place that is due
 --     stepping d count        what `step` answers
 use Prim.Native.Nat.{ℕ, suc, _+_, _-_, _%_, _^_}
 use mathlib.Core.Bool.{Bool, true, false, not, cond}
@@ -51,6 +57,18 @@ wait count next = (next + (2 ^ 32 - count)) % 2 ^ 32
 abbrev pub seenFrom : ℕ → Placed → Train
 seenFrom count p = record { phase = wait count (p .next); period = p .period; duration = p .duration }
 
+-- Whether a placed train ever collides with one whose phase is counted from the step with a count on.
+abbrev pub collides : ℕ → Train → Placed → Bool
+collides count train p = not (free (seenFrom count p) train)
+
+-- A placed train after a start: the next one is a period on, and the count may wrap before it.
+abbrev pub started : Placed → Placed
+started p = record { next = (p .next + p .period) % 2 ^ 32; period = p .period; duration = p .duration }
+
+-- How many ticks of a run follow its start.
+abbrev pub rest : Placed → ℕ
+rest p = p .duration - 1
+
 -- Whether it is an empty place that is sought.
 abbrev pub soughtEmpty : Sought → Bool
 soughtEmpty sought.Empty = true
@@ -62,7 +80,7 @@ unfoldable pub isSought : Sought → Held → Bool
 isSought s Empty = soughtEmpty s
 isSought sought.Empty (Holds p) = false
 isSought (sought.Due count) (Holds p) = eqb (p .next) count
-isSought (sought.Colliding count train) (Holds p) = not (free (seenFrom count p) train)
+isSought (sought.Colliding count train) (Holds p) = collides count train p
 
 -- The number of the first place that passes a test; how many places there are, where none does.
 unfoldable pub lowest : (Held → Bool) → List Place → ℕ
@@ -127,19 +145,19 @@ withdrawal d q =
       dispatcher = record { places = set (d .places) q emptyPlace; last = d .last; run = ended (d .run) q };
     })
 
--- What a place holds after a start of its train: the next start is a period on.
+-- What a place holds after a start of its train.
 abbrev pub startedHeld : Held → Held
 startedHeld Empty = Empty
-startedHeld (Holds p) = Holds (record { next = (p .next + p .period) % 2 ^ 32; period = p .period; duration = p .duration })
+startedHeld (Holds p) = Holds (started p)
 
 -- A place after a start of its train.
 abbrev pub startedPlace : Place → Place
 startedPlace place = record { held = startedHeld (place .held) }
 
--- How many ticks of a run follow its start.
+-- How many ticks of a run follow its start; none, where there is no train.
 abbrev pub restOf : Held → ℕ
 restOf Empty = 0
-restOf (Holds p) = p .duration - 1
+restOf (Holds p) = rest p
 
 -- What a step answers where the train at a place is due.
 abbrev pub starting : Dispatcher → ℕ → Stepped

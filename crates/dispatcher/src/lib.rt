@@ -6,7 +6,7 @@ ghost use mathlib.Core.Path.{_≡_};
 ghost use Prim.Native.Nat.{_<_};
 ghost use Rattle.dispatcher.specs.declared.Held.the-variants.{Holds};
 ghost use Rattle.dispatcher.specs.History.{placeCount};
-ghost use Rattle.dispatcher.specs.Answer.{seenFrom, soughtEmpty, isSought, startedPlace, restOf, lowest, fresh, refusedAdmission, admission, ended, withdrawal, starting, stepping};
+ghost use Rattle.dispatcher.specs.Answer.{seenFrom, collides, started, rest, soughtEmpty, isSought, startedPlace, restOf, lowest, fresh, refusedAdmission, admission, ended, withdrawal, starting, stepping};
 
 // A train in its place: the hardware count at which it next starts, its period and its duration in ticks.
 pub struct Placed {
@@ -107,16 +107,43 @@ impl Placed {
         }
     }
 
+    // Whether it ever collides with a train whose phase is counted from `count` on.
+    fn collides(self, count: u32, train: Train) -> bool
+        ensures { λ r. ⌜ r ≡ collides count train self ⌝ }
+    {
+        let pair = train::compare(self.seen_from(count), train);
+        !pair.free
+    }
+
+    // The same train after a start: the next one is a period on.
+    fn started(self) -> Placed
+        ensures { λ r. ⌜ r ≡ started self ⌝ }
+    {
+        Placed {
+            next: std::num::wrapping_add_u32(self.next, self.period),
+            period: self.period,
+            duration: self.duration,
+        }
+    }
+
+    // How many ticks of a run follow its start.
+    fn rest(self) -> u32
+        ensures { λ r. ⌜ r ≡ rest self ⌝ }
+    {
+        if self.duration == 0 {
+            0
+        } else {
+            self.duration - 1
+        }
+    }
+
     fn is(self, sought: Sought) -> bool
         ensures { λ r. ⌜ r ≡ isSought sought (Holds self) ⌝ }
     {
         match sought {
             Sought::Empty => false,
             Sought::Due(count) => self.next == count,
-            Sought::Colliding(count, train) => {
-                let pair = train::compare(self.seen_from(count), train);
-                !pair.free
-            }
+            Sought::Colliding(count, train) => self.collides(count, train),
         }
     }
 }
@@ -132,7 +159,7 @@ impl Place {
         }
     }
 
-    // The place after a start of its train: the next start is a period on.
+    // The place after a start of its train.
     fn started(self) -> Place
         ensures { λ r. ⌜ r ≡ startedPlace self ⌝ }
     {
@@ -140,29 +167,19 @@ impl Place {
         match held {
             Held::Empty => self,
             Held::Holds(placed) => Place {
-                held: Held::Holds(Placed {
-                    next: std::num::wrapping_add_u32(placed.next, placed.period),
-                    period: placed.period,
-                    duration: placed.duration,
-                }),
+                held: Held::Holds(placed.started()),
             },
         }
     }
 
-    // How many ticks of a run follow its start.
+    // How many ticks of a run follow its start; none, where there is no train.
     fn rest(self) -> u32
         ensures { λ r. ⌜ r ≡ restOf (self .held) ⌝ }
     {
         let held = self.held;
         match held {
             Held::Empty => 0,
-            Held::Holds(placed) => {
-                if placed.duration == 0 {
-                    0
-                } else {
-                    placed.duration - 1
-                }
-            }
+            Held::Holds(placed) => placed.rest(),
         }
     }
 }
