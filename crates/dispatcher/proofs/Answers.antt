@@ -58,7 +58,7 @@ pub started-empty : (place : Place) → place .held ≡ Empty → place ≡ star
 started-empty place e = ap {B = Place} (λ (h : Held). record { held = h }) (e ∙ sym (ap startedHeld e))
 
 module _ (run : Run) (q : ℕ) where
-  pub ended-there : run .place ≡ q → record { place = q; left = 0 } ≡ ended run q
+  pub ended-there : run .place ≡ q → record { place = run .place; left = 0 } ≡ ended run q
   ended-there e = simp (eq-eqb (run .place) q e)
 
   pub ended-elsewhere : (run .place ≡ q → ⊥) → run ≡ ended run q

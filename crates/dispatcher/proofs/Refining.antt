@@ -134,7 +134,7 @@ module _ (d : Dispatcher) (h : History) (sound : Sound h) (keeps : Keeps d h) wh
           (continues-claims b (sound .strict (d .run .place) b (there .1)) (h .steps) (there .2 .goes))
           ∙ e)
 
-      go : (b : Bool) → eqb (d .run .place) q ≡ b → KeepsRun (cond b (record { place = q; left = 0 }) (d .run)) (putting h q none)
+      go : (b : Bool) → eqb (d .run .place) q ≡ b → KeepsRun (cond b (record { place = d .run .place; left = 0 }) (d .run)) (putting h q none)
       go true e =
           record {
             none-goes-on = λ z p a at c. ended-run p a (old p a at .0) (old p a at .1) c (eqb-true (d .run .place) q e) (decLe (d .run .left) 0);

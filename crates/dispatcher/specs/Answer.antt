@@ -1,5 +1,6 @@
 -- The functions that the contracts cite: what each call answers on a record, whatever its value, and the record after it.
 -- Promises says what they have to do with the words of History.
+--     countAfter count ticks  the count so many ticks after another
 --     wait count next         the steps from the one with `count` to the one with `next`
 --     seenFrom count p        a placed train, its phase counted from the step with `count` on
 --     collides count train p  whether a placed train ever collides with another, whose phase is counted so too
@@ -49,6 +50,10 @@ use Rattle.dispatcher.specs.declared.Tick.the-variants as ticks
 use Rattle.dispatcher.specs.declared.Stepped.{Stepped}
 use Rattle.dispatcher.specs.History.{placeCount, following}
 
+-- The count so many ticks after another; it wraps.
+abbrev pub countAfter : (count ticks : ℕ) → ℕ
+countAfter count ticks = (count + ticks) % 2 ^ 32
+
 -- How many steps lie between two counts: the difference, which may be a wrap away.
 unfoldable pub wait : (count next : ℕ) → ℕ
 wait count next = (next + (2 ^ 32 - count)) % 2 ^ 32
@@ -63,7 +68,7 @@ collides count train p = not (free (seenFrom count p) train)
 
 -- A placed train after a start: the next one is a period on, and the count may wrap before it.
 abbrev pub started : Placed → Placed
-started p = record { next = (p .next + p .period) % 2 ^ 32; period = p .period; duration = p .duration }
+started p = record { next = countAfter (p .next) (p .period); period = p .period; duration = p .duration }
 
 -- How many ticks of a run follow its start.
 abbrev pub rest : Placed → ℕ
@@ -114,7 +119,7 @@ put d q place = record { places = set (d .places) q place; last = d .last; run =
 -- The place of a train that first starts after a delay, on from the next count.
 abbrev pub placeFor : ℕ → Train → Place
 placeFor count train =
-    record { held = Holds (record { next = (count + train .phase) % 2 ^ 32; period = train .period; duration = train .duration }) }
+    record { held = Holds (record { next = countAfter count (train .phase); period = train .period; duration = train .duration }) }
 
 -- An admission to the lowest empty place, where there is one and no placed train collides.
 abbrev pub admissionTo : Dispatcher → Train → (empty met : ℕ) → Admitted
@@ -134,7 +139,7 @@ admission d train =
 
 -- The run in progress after a withdrawal: none, where it was a run of that place.
 abbrev pub ended : Run → ℕ → Run
-ended run q = cond (eqb (run .place) q) (record { place = q; left = 0 }) run
+ended run q = cond (eqb (run .place) q) (record { place = run .place; left = 0 }) run
 
 -- What `withdraw` answers.
 unfoldable pub withdrawal : Dispatcher → ℕ → Withdrew

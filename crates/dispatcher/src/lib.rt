@@ -6,7 +6,7 @@ ghost use mathlib.Core.Path.{_≡_};
 ghost use Prim.Native.Nat.{_<_};
 ghost use Rattle.dispatcher.specs.declared.Held.the-variants.{Holds};
 ghost use Rattle.dispatcher.specs.History.{placeCount};
-ghost use Rattle.dispatcher.specs.Answer.{seenFrom, collides, started, rest, soughtEmpty, isSought, startedPlace, restOf, lowest, fresh, refusedAdmission, admission, ended, withdrawal, starting, stepping};
+ghost use Rattle.dispatcher.specs.Answer.{countAfter, seenFrom, collides, started, rest, soughtEmpty, isSought, startedPlace, restOf, lowest, fresh, refusedAdmission, admission, ended, withdrawal, starting, stepping};
 
 // A train in its place: the hardware count at which it next starts, its period and its duration in ticks.
 pub struct Placed {
@@ -26,7 +26,7 @@ pub struct Place {
 
 // The run in progress: its place, and how many of its ticks are still to come; none is in progress where that is 0.
 pub struct Run {
-    pub place: usize,
+    pub place: u32,
     pub left: u32,
 }
 
@@ -82,6 +82,13 @@ enum Sought {
     Colliding(u32, Train),
 }
 
+// The hardware count so many ticks after another. It wraps.
+fn count_after(count: u32, ticks: u32) -> u32
+    ensures { λ r. ⌜ r ≡ countAfter count ticks ⌝ }
+{
+    std::num::wrapping_add_u32(count, ticks)
+}
+
 impl Sought {
     fn is_empty(self) -> bool
         ensures { λ r. ⌜ r ≡ soughtEmpty self ⌝ }
@@ -116,14 +123,11 @@ impl Placed {
     }
 
     // The same train after a start: the next one is a period on.
-    fn started(self) -> Placed
+    fn started(mut self) -> Placed
         ensures { λ r. ⌜ r ≡ started self ⌝ }
     {
-        Placed {
-            next: std::num::wrapping_add_u32(self.next, self.period),
-            period: self.period,
-            duration: self.duration,
-        }
+        self.next = count_after(self.next, self.period);
+        self
     }
 
     // How many ticks of a run follow its start.
@@ -189,9 +193,9 @@ impl Run {
     fn ended(self, place: usize) -> Run
         ensures { λ r. ⌜ r ≡ ended self place ⌝ }
     {
-        if self.place == place {
+        if self.place as usize == place {
             return Run {
-                place: place,
+                place: self.place,
                 left: 0,
             };
         }
@@ -266,7 +270,7 @@ impl Dispatcher {
         }
         self.places[empty] = Place {
             held: Held::Holds(Placed {
-                next: std::num::wrapping_add_u32(count, delay),
+                next: count_after(count, delay),
                 period: period,
                 duration: duration,
             }),
@@ -310,7 +314,7 @@ impl Dispatcher {
     {
         let here = self.places[place];
         let run = Run {
-            place: place,
+            place: place as u32,
             left: here.rest(),
         };
         self.places[place] = here.started();
@@ -341,7 +345,7 @@ impl Dispatcher {
             };
             self.run = rest;
             return Stepped {
-                answer: Tick::GoesOn(run.place),
+                answer: Tick::GoesOn(run.place as usize),
                 dispatcher: self,
             };
         }
