@@ -2,16 +2,21 @@
 //! It shares no code with the crates and uses none. Its usage text says what each command writes.
 
 mod damaged;
+mod dispatcher;
 mod divisors;
 mod draw;
 mod files;
 mod ground;
 mod rows;
+mod scripts;
 mod sheet;
 mod stored;
 mod tables;
 mod trains;
+mod wrap;
 
+use dispatcher::{Answer, Call};
+use scripts::Script;
 use std::io::{stdout, BufWriter, Result, Write};
 use std::process::ExitCode;
 
@@ -37,6 +42,17 @@ usage: second ground             what the program `ground` has to print
        second damaged PROGRAM FILE..
                                  compares what the program `verdict`, which is at PROGRAM, prints for each
                                  stored table, for every beginning of it, and for it with other bytes
+       second script SEED CALLS  calls of a dispatcher drawn from the seed, for the program `play`: for each the
+                                 letter F (fresh), A (admit), W (withdraw) or S (step), and three numbers in
+                                 four bytes each, most significant byte first; those that it has not are 0
+       second script-lines SEED CALLS
+                                 what the program `play` has to print for them, after the bench sheet's paragraph
+       second script-tally SEED CALLS
+                                 how many of those lines there are of each kind
+       second script-words SEED CALLS
+                                 the same calls in words, each with its answer
+       second wrap-script        calls across the wrap of the count, written out, for the program `play`
+       second wrap-lines         what it has to print for them, after the bench sheet's paragraph
 ";
 
 const BEGINNINGS: [&str; 8] =
@@ -59,6 +75,20 @@ const OUTCOMES: [&str; 16] = [
     "load refuse 10 ",
     "load refuse 11 ",
     "load refuse 12 ",
+];
+
+const ANSWERS: [&str; 11] = [
+    "fresh",
+    "place ",
+    "withdrawn",
+    "idle",
+    "starts ",
+    "goes-on ",
+    "refuse 13 ",
+    "refuse 14 ",
+    "refuse 15 ",
+    "refuse 16 ",
+    "refuse 17 ",
 ];
 
 fn main() -> ExitCode {
@@ -86,12 +116,16 @@ fn run(words: &[&str], out: &mut impl Write) -> Option<Result<()>> {
         ["ground"] => Some(out.write_all(ground::expected().as_bytes())),
         ["sheet"] => Some(sheet::rows().try_for_each(|row| out.write_all(tables::line(&row).as_bytes()))),
         ["sheet-rows"] => Some(sheet::rows().try_for_each(|row| out.write_all(&rows::bytes(&row)))),
+        ["wrap-script"] => Some(wrap::script().into_iter().try_for_each(|call| out.write_all(&scripts::bytes(call)))),
+        ["wrap-lines"] => Some(play_lines(scripts::played(wrap::script()), out)),
         ["damaged", program, files @ ..] if !files.is_empty() => {
             Some(damaged::compare(program, files).and_then(|said| out.write_all(said.as_bytes())))
         }
         [command, seed, number] => {
             let (seed, number) = (seed.parse().ok()?, number.parse().ok()?);
-            drawn_rows(command, seed, number, out).or_else(|| drawn_files(command, seed, number, out))
+            drawn_rows(command, seed, number, out)
+                .or_else(|| drawn_files(command, seed, number, out))
+                .or_else(|| drawn_script(command, seed, number, out))
         }
         _ => None,
     }
@@ -121,6 +155,24 @@ fn drawn_files(command: &str, seed: u64, number: u64, out: &mut impl Write) -> O
     }
 }
 
+/// The same for the calls of a dispatcher that are drawn.
+fn drawn_script(command: &str, seed: u64, number: u64, out: &mut impl Write) -> Option<Result<()>> {
+    let mut script = Script::new(seed).take(number as usize);
+    match command {
+        "script" => Some(script.try_for_each(|(call, _)| out.write_all(&scripts::bytes(call)))),
+        "script-lines" => Some(play_lines(script, out)),
+        "script-tally" => Some(tally(&ANSWERS, script.map(|(_, answer)| answer.to_string()), out)),
+        "script-words" => Some(script.try_for_each(|(call, answer)| writeln!(out, "{call}: {answer}"))),
+        _ => None,
+    }
+}
+
+/// What the program `play` has to print: the lines of the bench sheet's paragraph, and those of the calls.
+fn play_lines(mut played: impl Iterator<Item = (Call, Answer)>, out: &mut impl Write) -> Result<()> {
+    out.write_all(scripts::paragraph_lines().as_bytes())?;
+    played.try_for_each(|(_, answer)| writeln!(out, "{answer}"))
+}
+
 /// How many lines begin with each of the words that a line can begin with.
 fn tally(beginnings: &[&str], lines: impl Iterator<Item = String>, out: &mut impl Write) -> Result<()> {
     let mut counts = vec![0; beginnings.len()];
@@ -128,5 +180,5 @@ fn tally(beginnings: &[&str], lines: impl Iterator<Item = String>, out: &mut imp
         let beginning = beginnings.iter().position(|beginning| line.starts_with(beginning));
         counts[beginning.expect("no other line is printed")] += 1;
     }
-    beginnings.iter().zip(counts).try_for_each(|(beginning, count)| writeln!(out, "{beginning}{count}"))
+    beginnings.iter().zip(counts).try_for_each(|(beginning, count)| writeln!(out, "{} {count}", beginning.trim_end()))
 }
