@@ -9,6 +9,8 @@ use std::fmt;
 const PLACES: usize = 64;
 const NO_PLACE: usize = 64;
 const MOST_TICKS: u32 = 10_000_000;
+
+/// The hardware count comes round after so many.
 const COUNTS: u128 = 1 << 32;
 
 /// Two trains whose claims repeat within so many ticks are walked tick by tick.
@@ -169,15 +171,15 @@ fn meet(a: Train, b: Train, now: u128) -> bool {
     offset.is_some()
 }
 
-/// An offset in the runs of the train with the shorter ones at which it sooner or later meets the other. The ticks at
-/// offset i of a train's runs are those that leave the remainder of first + i by its period; and two remainders by two
-/// periods are those of one tick, as late as one likes, exactly where they agree by the divisor of the periods (the Chinese
-/// remainder theorem). So for each offset of the one we look whether the other has one that agrees with it.
+/// An offset in the runs of the train with the shorter ones at which it sooner or later meets the other. From its first
+/// start on, the ticks at offset i of a train's runs are those that leave the remainder of first + i by its period; and
+/// two remainders by two periods are those of one tick, as late as one likes, exactly where they agree by the divisor of
+/// the periods (the Chinese remainder theorem). So each offset of the one is asked whether the other has one that agrees.
 fn agreeing_offset(a: Train, b: Train) -> Option<u64> {
     let (short, long) = if a.duration <= b.duration { (a, b) } else { (b, a) };
     let divisor = greatest_common_divisor(a.period, b.period);
     let between = (short.first + divisor - long.first % divisor) % divisor;
     let [divisor, between, shorter, longer] = [divisor, between, short.duration, long.duration].map(|n| n as u64);
-    // the least offset of the other that agrees with i is the remainder of between + i
+    // the least number that agrees with offset i is the remainder of between + i, which has to be an offset of the other
     (0..shorter.min(divisor)).find(|i| (between + i) % divisor < longer)
 }

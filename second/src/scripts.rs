@@ -1,7 +1,7 @@
-//! Calls of a dispatcher drawn from a seed, and how they are handed to the program `play`. They come in scenes, each with
-//! its own kind of trains, and each kind is aimed at a place of the paper where a program is likely to go wrong. The second
-//! dispatcher plays along, so that places are withdrawn in mid-run and trains come close to those that are placed.
-//! What a call answers is not settled here.
+//! Calls of a dispatcher drawn from a seed, and how they are handed to the program `play`. They come in scenes, each
+//! with its own kind of trains, and each kind is aimed at a place of the paper where a program is likely to go wrong. The
+//! second dispatcher plays along, so that trains are withdrawn in mid-run and come close to those that are placed. What a
+//! call answers is not settled here, but in `dispatcher`.
 
 use crate::dispatcher::{Answer, Call, Dispatcher, Train};
 use crate::draw::Draw;
@@ -69,8 +69,8 @@ type Kind = fn(&mut Scene, &Dispatcher) -> Strokes;
 /// The kinds of trains.
 const KINDS: [Kind; 8] = [small, in_a_slot, beside_a_slot, beside_a_train, fibonacci, coprime, long, at_a_limit];
 
-/// The kinds of scenes, which come round in turn: the favourite kind of train, the most slots and the longest, and the
-/// multiples of the base. The first are full houses: as many slots as places, all taken at the start.
+/// The kinds of scenes, which come round in turn: the favourite kind of train, the most slots, the longest of them, and
+/// the multiples of the base. The first two are full houses: as many slots as places, all taken at the start.
 const SCENES: [(Kind, u64, u64, &[u64]); 12] = [
     (in_a_slot, PLACES, 1, &[1]),
     (in_a_slot, PLACES, 5, &[1, 2, 3, 5, 8]),
@@ -315,8 +315,8 @@ impl Script {
         }
     }
 
-    /// A scene begins where the last one is over, and its opening follows the fresh start. The first has neither: it goes on
-    /// from where the program begins.
+    /// A scene begins where the last one is over, and its opening follows the fresh start. The first has neither: it goes
+    /// on from where the program begins.
     fn draw_next(&mut self) {
         if self.scene.left == 0 {
             self.scene = Scene::new(self.seed, self.scenes);
@@ -355,7 +355,7 @@ impl Script {
         Call::Step(if self.scene.draw.once_in(2) { self.scene.draw.of(&beside) } else { self.scene.draw.of(&far) })
     }
 
-    /// A withdrawal: of the train that runs or has just run, of any train, or of a place that mostly is empty or is none.
+    /// A withdrawal: of the train that runs or has just run, of any train, or of a place that is mostly empty or none.
     fn withdrawal(&mut self) -> Vec<Call> {
         let held = self.dispatcher.held();
         let draw = &mut self.scene.draw;
@@ -373,8 +373,8 @@ impl Script {
         iter::once(withdraw).chain(self.in_its_stead(train)).collect()
     }
 
-    /// Nothing, or a train for the rest of the run of a withdrawn one, or that one itself, which goes on with its strokes. A
-    /// house is kept full.
+    /// Nothing, or a train for the rest of the run of a withdrawn one, or that one itself, which goes on with its
+    /// strokes. A house is kept full.
     fn in_its_stead(&mut self, train: Train) -> Option<Call> {
         let [period, duration] = [train.period, train.duration].map(|ticks| ticks as u64);
         let is_house = self.scene.is_house();

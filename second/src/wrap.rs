@@ -1,5 +1,5 @@
-//! A script of calls across the wrap of the count, written out. It stands beside the program `play`, and what that has to
-//! print for it.
+//! A script of calls across the wrap of the count, written out. It stands beside the program `play`, with what that has
+//! to print for it.
 
 use crate::dispatcher::Call::{self, Admit, Fresh, Step, Withdraw};
 
@@ -69,8 +69,8 @@ fn across_the_wrap() -> Vec<Call> {
     vec![Step(0), Step(0), Step(4_294_967_295), Step(2), Step(1)]
 }
 
-/// The train at place 0 is withdrawn after one tick of its run. Another has the other two from the next tick on, at the same
-/// place, and a third has that one from the next period on.
+/// The train at place 0 is withdrawn after one tick of its run. Another has the other two ticks, from the next one on and
+/// at the same place, and a third has the first tick from the next period on.
 fn taken_over() -> Vec<Call> {
     let calls = [
         Withdraw(0),
@@ -86,8 +86,8 @@ fn taken_over() -> Vec<Call> {
     calls.into_iter().chain(steps(2, 40)).collect()
 }
 
-/// Freed places are used again, the lowest first. The run of place 1 that begins with the count 46 is cut by a withdrawal, and
-/// its other ticks are idle.
+/// Freed places are used again, the lowest first. The run of place 1 that begins with the count 46 is cut by a
+/// withdrawal, and its other ticks are idle.
 fn used_again() -> Vec<Call> {
     let calls = [
         Withdraw(1),
