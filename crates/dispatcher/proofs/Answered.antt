@@ -33,7 +33,7 @@ use Rattle.dispatcher.specs.declared.Stepped.{Stepped}
 use Rattle.dispatcher.specs.Calls.{Call, admit, withdraw, step, idle, Event, callOf}
 use Rattle.dispatcher.specs.History.{placeCount, following, History, heldBy, At, EmptyAt, arriving, Begins, Meets, OutOfLimits, meetingCheck, order, Does, Right, becomes, Rights}
 use Rattle.dispatcher.specs.Answer.{isSought, lowest, heldAt, nextCount, placeFor, put, admission, withdrawal, stepping}
-use Rattle.dispatcher.specs.Played.{admissionEvent, withdrawalEvent, tickEvent, eventOf, next, logOf}
+use Rattle.dispatcher.specs.Played.{admissionEvent, withdrawalEvent, tickEvent, eventOf, recordAfter, logOf}
 use Rattle.dispatcher.proofs.Answers.{admission-not-a-train, admission-no-place, admission-collides, admission-placed, withdrawal-none, withdrawal-outside, withdrawal-done, stepping-wrong, stepping-goes-on, stepping-starts, stepping-idle}
 use Rattle.dispatcher.proofs.Strokes.{claims-either}
 use Rattle.dispatcher.proofs.Histories.{same-or-not, Sound, sound-becomes, right-only}
@@ -261,8 +261,8 @@ module _ (d : Dispatcher) (h : History) (sound : Sound h) (keeps : Keeps d h) wh
 
   -- ---- Every call
 
-  pub answered : (call : Call) → Right h (eventOf d call) × Keeps (next d call) (becomes h (eventOf d call))
-  unfolding eventOf next
+  pub answered : (call : Call) → Right h (eventOf d call) × Keeps (recordAfter d call) (becomes h (eventOf d call))
+  unfolding eventOf recordAfter
   answered (admit delay period duration) = admission-good delay period duration
   answered (withdraw q) = withdrawal-good q
   answered (step count) = step-good count
@@ -293,14 +293,14 @@ event-call d (step count) = go (stepping d count .answer)
 pub log-calls : (d : Dispatcher) (calls : List Call) → map callOf (logOf d calls) ≡ calls
 unfolding logOf
 log-calls d [] = refl
-log-calls d (call ∷ calls) = ap (λ (c : Call). c ∷ map callOf (logOf (next d call) calls)) (event-call d call) ∙ ap (λ (cs : List Call). call ∷ cs) (log-calls (next d call) calls)
+log-calls d (call ∷ calls) = ap (λ (c : Call). c ∷ map callOf (logOf (recordAfter d call) calls)) (event-call d call) ∙ ap (λ (cs : List Call). call ∷ cs) (log-calls (recordAfter d call) calls)
 
 pub log-right : (d : Dispatcher) (h : History) → Sound h → Keeps d h → (calls : List Call) → Rights h (logOf d calls)
 unfolding logOf Rights
 log-right d h sound keeps [] = tt
 log-right d h sound keeps (call ∷ calls) =
     let here = answered d h sound keeps call in
-    (here .0, log-right (next d call) (becomes h (eventOf d call)) (sound-becomes h sound (eventOf d call) (here .0)) (here .1) calls)
+    (here .0, log-right (recordAfter d call) (becomes h (eventOf d call)) (sound-becomes h sound (eventOf d call) (here .0)) (here .1) calls)
 
 pub log-only : (d : Dispatcher) (h : History) → Sound h → Keeps d h → (log : List Event) → Rights h log → log ≡ logOf d (map callOf log)
 unfolding logOf Rights
@@ -309,6 +309,6 @@ log-only d h sound keeps (e ∷ log) rights =
     let here = answered d h sound keeps (callOf e) in
     let same : e ≡ eventOf d (callOf e) = right-only h sound e (eventOf d (callOf e)) (sym (event-call d (callOf e))) (rights .0) (here .0) in
     let rest =
-    log-only (next d (callOf e)) (becomes h e) (sound-becomes h sound e (rights .0))
-    (subst (λ (f : Event). Keeps (next d (callOf e)) (becomes h f)) (sym same) (here .1)) log (rights .1) in
+    log-only (recordAfter d (callOf e)) (becomes h e) (sound-becomes h sound e (rights .0))
+    (subst (λ (f : Event). Keeps (recordAfter d (callOf e)) (becomes h f)) (sym same) (here .1)) log (rights .1) in
     ap (λ (f : Event). f ∷ log) same ∙ ap (λ (l : List Event). eventOf d (callOf e) ∷ l) rest

@@ -21,7 +21,7 @@ use Rattle.dispatcher.specs.declared.Sought.{Sought}
 use Rattle.dispatcher.specs.declared.Sought.the-variants as sought
 use Rattle.dispatcher.specs.declared.Admission.the-variants as admissions
 use Rattle.dispatcher.specs.declared.Withdrawal.the-variants as withdrawals
-use Rattle.dispatcher.specs.declared.Tick.the-variants as ticks
+use Rattle.dispatcher.specs.declared.Tick.the-variants as tick
 use Rattle.dispatcher.specs.History.{placeCount}
 use Rattle.dispatcher.specs.Answer.{collides, soughtEmpty, isSought, lowest, emptyPlace, heldAt, refusedAdmission, nextCount, put, placeFor, admission, ended, withdrawal, startedHeld, startedPlace, starting, stepping}
 
@@ -170,7 +170,7 @@ module _ (d : Dispatcher) (q : ℕ) where
 -- ---- What `step` answers
 
 module _ (d : Dispatcher) (count : ℕ) where
-  pub stepping-wrong : (count ≡ nextCount d → ⊥) → stepping d count ≡ record { answer = ticks.Refused WrongCount; dispatcher = d }
+  pub stepping-wrong : (count ≡ nextCount d → ⊥) → stepping d count ≡ record { answer = tick.Refused WrongCount; dispatcher = d }
   unfolding stepping
   stepping-wrong n = simp (ne-eqb count (nextCount d) n)
 
@@ -179,7 +179,7 @@ module _ (d : Dispatcher) (count : ℕ) where
         0 < d .run .left →
         stepping d count
         ≡ record {
-          answer = ticks.GoesOn (d .run .place);
+          answer = tick.GoesOn (d .run .place);
           dispatcher = record { places = d .places; last = count; run = record { place = d .run .place; left = d .run .left - 1 } };
         }
     unfolding stepping
@@ -200,7 +200,7 @@ module _ (d : Dispatcher) (count : ℕ) where
 
       pub stepping-idle :
           placeCount ≤ lowest (isSought (sought.Due count)) (d .places) →
-          stepping d count ≡ record { answer = ticks.Idle; dispatcher = record { places = d .places; last = count; run = d .run } }
+          stepping d count ≡ record { answer = tick.Idle; dispatcher = record { places = d .places; last = count; run = d .run } }
       unfolding stepping
       stepping-idle h =
           simp (
@@ -218,5 +218,5 @@ module _ (d : Dispatcher) (count : ℕ) where
 
         pub steps-idle :
             placeCount ≤ due →
-            record { answer = ticks.Idle; dispatcher = record { places = d .places; last = count; run = d .run } } ≡ stepping d count
+            record { answer = tick.Idle; dispatcher = record { places = d .places; last = count; run = d .run } } ≡ stepping d count
         steps-idle h = sym (stepping-idle (subst (λ (n : ℕ). placeCount ≤ n) due-is h))

@@ -15,7 +15,7 @@ use Rattle.dispatcher.specs.declared.Stepped.{Stepped}
 use Rattle.dispatcher.specs.Calls.{Call, admit, withdraw, step, Event, refused}
 use Rattle.dispatcher.specs.History.{placeCount}
 use Rattle.dispatcher.specs.Answer.{isSought, heldAt, lowest, nextCount, admission, withdrawal, stepping}
-use Rattle.dispatcher.specs.Played.{admissionEvent, withdrawalEvent, tickEvent, eventOf, next}
+use Rattle.dispatcher.specs.Played.{admissionEvent, withdrawalEvent, tickEvent, eventOf, recordAfter}
 
 -- a choice between answers each of which keeps the record where it is a refusal
 module _ {A : Type 0} (event : A → Event) (record-of : A → Dispatcher) (d : Dispatcher) where
@@ -26,8 +26,8 @@ module _ {A : Type 0} (event : A → Event) (record-of : A → Dispatcher) (d : 
   either true x y f g = f
   either false x y f g = g
 
-pub refused-keeps : (d : Dispatcher) (call c : Call) (number place : ℕ) → eventOf d call ≡ refused c number place → next d call ≡ d
-unfolding eventOf next admission withdrawal stepping
+pub refused-keeps : (d : Dispatcher) (call c : Call) (number place : ℕ) → eventOf d call ≡ refused c number place → recordAfter d call ≡ d
+unfolding eventOf recordAfter admission withdrawal stepping
 refused-keeps d (admit delay period duration) =
     let train : Train = record { phase = delay; period = period; duration = duration } in
     let event : Admitted → Event = λ r. admissionEvent delay period duration (r .answer) in

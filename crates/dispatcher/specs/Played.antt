@@ -2,9 +2,8 @@
 --     admissionEvent delay P d answer, withdrawalEvent q answer, tickEvent count answer
 --                             the event of a call and the answer that the code gives
 --     eventOf d call          the event of a call on a record
---     next d call             the record after it
+--     recordAfter d call      the record after it
 --     logOf d calls           the log of some calls
---     reached d calls         the record after them
 use Prim.Native.Nat.{ℕ}
 use mathlib.Core.List.{List, [], _∷_}
 use Rattle.refusal.specs.declared.Refusal.{Refusal}
@@ -48,17 +47,12 @@ eventOf d (withdraw q) = withdrawalEvent q (withdrawal d q .answer)
 eventOf d (step count) = tickEvent count (stepping d count .answer)
 
 -- What becomes of it.
-unfoldable pub next : Dispatcher → Call → Dispatcher
-next d (admit delay period duration) = admission d (record { phase = delay; period = period; duration = duration }) .dispatcher
-next d (withdraw q) = withdrawal d q .dispatcher
-next d (step count) = stepping d count .dispatcher
+unfoldable pub recordAfter : Dispatcher → Call → Dispatcher
+recordAfter d (admit delay period duration) = admission d (record { phase = delay; period = period; duration = duration }) .dispatcher
+recordAfter d (withdraw q) = withdrawal d q .dispatcher
+recordAfter d (step count) = stepping d count .dispatcher
 
 -- The answers through a list of calls.
 unfoldable pub logOf : Dispatcher → List Call → List Event
 logOf d [] = []
-logOf d (call ∷ calls) = eventOf d call ∷ logOf (next d call) calls
-
--- The record after a list of calls.
-unfoldable pub reached : Dispatcher → List Call → Dispatcher
-reached d [] = d
-reached d (call ∷ calls) = reached (next d call) calls
+logOf d (call ∷ calls) = eventOf d call ∷ logOf (recordAfter d call) calls

@@ -14,7 +14,7 @@ use Rattle.dispatcher.specs.Calls.{Call, admit, Doing, idle, starts, goe
 use Rattle.dispatcher.specs.History.{placeCount, History, beginning, heldBy, At, EmptyAt, arriving, Begins, Continues, Meets, OutOfLimits, order, Right, Rights, after}
 use Rattle.dispatcher.specs.Share.{doingAt, isOf, Stay, Share}
 use Rattle.dispatcher.specs.Answer.{fresh}
-use Rattle.dispatcher.specs.Played.{eventOf, next, logOf}
+use Rattle.dispatcher.specs.Played.{eventOf, recordAfter, logOf}
 use Rattle.dispatcher.specs.Tables.{trainAt, AllApart, admissions, seated}
 
 pub record Promises : Type 0 where
@@ -70,7 +70,7 @@ pub record Promises : Type 0 where
       (t : ℕ) → length (ticks log) ≤ t → Claims a t → Claims b t → p ≡ q
   -- D6. A refused call hands back the record as it came, whatever its value.
   pub refused-keeps :
-      (d : Dispatcher) (call c : Call) (number place : ℕ) → eventOf d call ≡ refused c number place → next d call ≡ d
+      (d : Dispatcher) (call c : Call) (number place : ℕ) → eventOf d call ≡ refused c number place → recordAfter d call ≡ d
   -- D7. Trains within the limits of which no two ever meet are admitted whole, in order, with their phases as delays; place and
   -- position agree. (The crate `whole` says so of an accepted row.)
   pub all-seated :

@@ -1,6 +1,6 @@
 -- The trains of a table, admitted in order into a fresh dispatcher with their phases as delays.
 --     trainAt ts i            the train at a position
---     Apart ts                no tick is claimed by two trains at different positions
+--     AllApart ts             no tick is claimed by two trains at different positions
 --     admissions ts           the calls that admit them
 --     seated q ts             what these are answered where each gets the place of its position, the first of them place q
 use Prim.Native.Nat.{ℕ, suc, _<_}

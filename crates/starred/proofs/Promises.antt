@@ -15,9 +15,9 @@ use Rattle.stored.specs.Answer.{saveCheck, savedIn, hasMark, headCheck, timeChe
 use Rattle.file.specs.Answer.{verdictAfter}
 use Rattle.dispatcher.specs.Answer.{wait, isSought, admission, withdrawal, stepping}
 use Rattle.dispatcher.specs.Answer as dispatcher
-use Rattle.dispatcher.specs.Played.{eventOf, next, logOf}
+use Rattle.dispatcher.specs.Played.{eventOf, recordAfter, logOf}
 use Rattle.starred.specs.Promises.{Promises}
 
 pub promises : Promises
-unfolding verdict refusal checked entries entriesOf denominators trains noDenominator noTime firstRefusal entryCheck tooLong ticksCheck lowest wholeTicks commonMultiple running runningFrom scan pairsWith pairsFrom withinLimits expression free claims both firstFrom earliest euclidWithin euclid gcd divisions lcm isLowest flatMap bytesOf number32 recordsIn saveCheck savedIn hasMark headCheck timeCheck storedCheck loadCheck verdictAfter wait isSought dispatcher.lowest admission withdrawal stepping eventOf next logOf
+unfolding verdict refusal checked entries entriesOf denominators trains noDenominator noTime firstRefusal entryCheck tooLong ticksCheck lowest wholeTicks commonMultiple running runningFrom scan pairsWith pairsFrom withinLimits expression free claims both firstFrom earliest euclidWithin euclid gcd divisions lcm isLowest flatMap bytesOf number32 recordsIn saveCheck savedIn hasMark headCheck timeCheck storedCheck loadCheck verdictAfter wait isSought dispatcher.lowest admission withdrawal stepping eventOf recordAfter logOf
 promises = record { sheet-judged = refl; sheet-stored = (refl, refl); sheet-file = refl; sheet-played = refl }
