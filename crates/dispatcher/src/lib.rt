@@ -15,6 +15,7 @@ pub struct Placed {
     pub duration: u32,
 }
 
+// What a place holds.
 pub enum Held {
     Empty,
     Holds(Placed),
@@ -37,17 +38,20 @@ pub struct Dispatcher {
     pub run: Run,
 }
 
+// The answer of an admission.
 pub enum Admission {
     // The place that the train has now.
     At(usize),
     Refused(Refusal),
 }
 
+// The answer, and the dispatcher after the call.
 pub struct Admitted {
     pub answer: Admission,
     pub dispatcher: Dispatcher,
 }
 
+// The answer of a withdrawal.
 pub enum Withdrawal {
     Withdrawn,
     Refused(Refusal),
@@ -58,7 +62,7 @@ pub struct Withdrew {
     pub dispatcher: Dispatcher,
 }
 
-// What the processor does in a tick.
+// The answer of a step: what the processor does in this tick.
 pub enum Tick {
     Idle,
     // The train at this place starts.
@@ -219,6 +223,7 @@ fn lowest(places: [Place; Dispatcher::PLACES], sought: Sought) -> usize
 }
 
 impl Dispatcher {
+    // How many trains it can hold.
     pub const PLACES: usize = 64;
 
     // A dispatcher without a train, whose first step is the one with the count after this.
