@@ -1,13 +1,13 @@
--- Every call on a record that keeps a history is answered rightly, and the record after it keeps the history after it.
--- Core: keeps-admitted, keeps-withdrawn, keeps-idle, keeps-worked, answered. The rest follows from these.
+-- A record that keeps a history, and what becomes of both: after an admission, a withdrawal and each kind of step the one keeps the other.
+-- Core: put-held, keeps-admitted, keeps-withdrawn, nearer, started-train, worked-run. The rest follows from these.
 -- Assumes nothing.
 use Prim.Native.Nat.{ℕ, suc, _+_, _-_, _%_, _^_, _<_, _≤_}
-use mathlib.Core.Path.{_≡_, refl, sym, ap, subst, _∙_}
+use mathlib.Core.Path.{_≡_, refl, sym, ap, subst, subst⁻¹, _∙_}
 use mathlib.Core.Bool.{Bool, true, false, cond}
-use mathlib.Core.Logic.{_⊎_, inl, inr, ⊎-elim}
-use mathlib.Core.Option.{Option, none, some, Option·some-injective, Option·none-ne-some}
-use native.Mathlib.Nat.{zero-mod, lt-of-not-le, pos-of-ne-zero}
-use native.Mathlib.Decide.{decLe}
+use mathlib.Core.Logic.{inl, inr, ⊎-elim, dite}
+use mathlib.Core.Option.{Option, none, some, Option·none-ne-some}
+use native.Mathlib.Nat.{zero-mod, eq-zero-or-pos, pos-of-ne-zero}
+use native.Mathlib.Decide.{ℕ-discrete}
 use native.Mathlib.Omega.{arith}
 use lib.Dec.{eqb}
 use lib.ListN.{getD, set, length-set}
@@ -16,6 +16,7 @@ use borrow.Author.Tests.{eqb-true, eqb-false}
 use Rattle.train.specs.declared.Train.{Train}
 use Rattle.train.specs.Claims.{maxTicks, Strict}
 use Rattle.dispatcher.specs.declared.Placed.{Placed}
+use Rattle.dispatcher.specs.declared.Held.{Held}
 use Rattle.dispatcher.specs.declared.Held.the-variants.{Holds}
 use Rattle.dispatcher.specs.declared.Place.{Place}
 use Rattle.dispatcher.specs.declared.Run.{Run}
@@ -23,87 +24,92 @@ use Rattle.dispatcher.specs.declared.Dispatcher.{Dispatcher}
 use Rattle.dispatcher.specs.Calls.{idle}
 use Rattle.dispatcher.specs.History.{placeCount, following, History, heldBy, At, EmptyAt, arriving, Begins, Continues, Does}
 use Rattle.dispatcher.specs.Answer.{emptyPlace, heldAt, put, placeFor, ended, started, startedHeld, startedPlace, restOf, starting}
-use Rattle.dispatcher.proofs.Strokes.{NextStroke, Running, Ran, begins-claims, continues-claims, begins-not-continues, continues-before, started-ran, running-ran, run-on, run-over, stroke-here, stroke-now, stroke-nearer, stroke-again, stroke-first}
-use Rattle.dispatcher.proofs.Histories.{at-one, same-or-not, Sound, at-put, putting, claims-one}
+use Rattle.dispatcher.proofs.Strokes.{Running, Ran, continues-claims, continues-before, started-ran, running-ran, run-on, run-over, stroke-now, stroke-nearer, stroke-again, stroke-first}
+use Rattle.dispatcher.proofs.Histories.{Sound, putting, at-placed, at-emptied, one-train, starts-claims, not-both-ways}
 use Rattle.dispatcher.proofs.Counts.{following-small, following-on}
-use Rattle.dispatcher.proofs.Keeping.{KeepsTrain, KeepsHeld, KeepsRun, Keeps, kept}
+use Rattle.dispatcher.proofs.Keeping.{KeepsTrain, KeepsHeld, KeepsRun, Keeps, due-now, kept}
 
 module _ (d : Dispatcher) (h : History) (sound : Sound h) (keeps : Keeps d h) where
+  -- The count of the next step.
+  abbrev coming : ℕ
+  coming = following (h .last)
+
   -- ---- Another place
+
+  -- what is so of a place that is put, and of what every other place holds, is so of all places of the record after it
+  put-held :
+      (C : ℕ → Held → Type 0) (q : ℕ) (place : Place) → q < placeCount →
+      C q (place .held) → ((p : ℕ) → p < placeCount → (p ≡ q → ⊥) → C p (heldAt d p)) →
+      (p : ℕ) → p < placeCount → C p (heldAt (put d q place) p)
+  put-held C q place inside here others p l = dite (ℕ-discrete p q) same other
+    where
+      same : p ≡ q → C p (heldAt (put d q place) p)
+      same e =
+          let is = getD-set-same (d .places) q place emptyPlace (subst⁻¹ (λ (n : ℕ). q < n) (keeps .many) inside) in
+          subst⁻¹ (λ (r : ℕ). C r (heldAt (put d q place) r)) e (subst⁻¹ (λ (y : Place). C q (y .held)) is here)
+
+      other : (p ≡ q → ⊥) → C p (heldAt (put d q place) p)
+      other f = subst⁻¹ (λ (y : Place). C p (y .held)) (getD-set-other (d .places) q p place emptyPlace f) (others p l f)
 
   -- places that are put in the record and in the history, and that keep each other
   keeps-put :
-      (q : ℕ) (place : Place) (x : Option Train) → q < placeCount → KeepsHeld (place .held) x (following (h .last)) (h .steps) →
-      (p : ℕ) → p < placeCount →
-      KeepsHeld (getD (set (d .places) q place) p emptyPlace .held) (getD (set (h .places) q x) p none) (following (h .last)) (h .steps)
-  keeps-put q place x inside-q here p l = ⊎-elim same other (same-or-not p q)
-    where
-      same :
-          p ≡ q →
-          KeepsHeld (getD (set (d .places) q place) p emptyPlace .held) (getD (set (h .places) q x) p none) (following (h .last)) (h .steps)
-      same e =
-          let held-is : getD (set (d .places) q place) p emptyPlace ≡ place =
-          ap (λ (r : ℕ). getD (set (d .places) q place) r emptyPlace) e
-          ∙ getD-set-same (d .places) q place emptyPlace (subst (λ (n : ℕ). q < n) (sym (keeps .many)) inside-q) in
-          let x-is : getD (set (h .places) q x) p none ≡ x =
-          ap (λ (r : ℕ). getD (set (h .places) q x) r none) e
-          ∙ getD-set-same (h .places) q x none (subst (λ (n : ℕ). q < n) (sym (sound .many)) inside-q) in
-          subst (λ (y : Place). KeepsHeld (y .held) (getD (set (h .places) q x) p none) (following (h .last)) (h .steps)) (sym held-is)
-          (subst (λ (y : Option Train). KeepsHeld (place .held) y (following (h .last)) (h .steps)) (sym x-is) here)
+      (q : ℕ) (place : Place) (x : Option Train) → q < placeCount → KeepsHeld (place .held) x h →
+      (p : ℕ) → p < placeCount → KeepsHeld (heldAt (put d q place) p) (heldBy (putting h q x) p) h
+  keeps-put q place x l here =
+      let is = getD-set-same (h .places) q x none (subst⁻¹ (λ (n : ℕ). q < n) (sound .many) l) in
+      put-held (λ (p : ℕ) (held : Held). KeepsHeld held (heldBy (putting h q x) p) h) q place l
+      (subst⁻¹ (λ (y : Option Train). KeepsHeld (place .held) y h) is here)
+      (λ p k f. subst⁻¹ (λ (y : Option Train). KeepsHeld (heldAt d p) y h) (getD-set-other (h .places) q p x none f) (keeps .places p k))
 
-      other :
-          (p ≡ q → ⊥) →
-          KeepsHeld (getD (set (d .places) q place) p emptyPlace .held) (getD (set (h .places) q x) p none) (following (h .last)) (h .steps)
-      other f =
-          subst (λ (y : Place). KeepsHeld (y .held) (getD (set (h .places) q x) p none) (following (h .last)) (h .steps))
-          (sym (getD-set-other (d .places) q p place emptyPlace f))
-          (subst (λ (y : Option Train). KeepsHeld (heldAt d p) y (following (h .last)) (h .steps)) (sym (getD-set-other (h .places) q p x none f))
-          (keeps .places p l))
-
-  -- a train at another place stays there
-  stays-put : (q : ℕ) (x : Option Train) (p : ℕ) (a : Train) → (p ≡ q → ⊥) → At h p a → At (putting h q x) p a
-  stays-put q x p a f at = getD-set-other (h .places) q p x none f ∙ at
+  -- the run in progress goes on where the place that is put is another
+  still-there :
+      (q : ℕ) (x : Option Train) → (d .run .place ≡ q → ⊥) → 0 < d .run .left →
+      (a : Train) × At (putting h q x) (d .run .place) a × Running a (h .steps) (d .run .left)
+  still-there q x f l =
+      let there = keeps .run .goes-on-there l in
+      (there .0, getD-set-other (h .places) q (d .run .place) x none f ∙ there .1, there .2)
 
   -- ---- After an admission
 
-  pub keeps-admitted :
-      (delay period duration q : ℕ) → Strict (arriving h delay period duration) → delay ≤ maxTicks → EmptyAt h q →
-      Keeps (put d q (placeFor (following (h .last)) (record { phase = delay; period = period; duration = duration })))
-      (putting h q (some (arriving h delay period duration)))
-  keeps-admitted delay period duration q strict near empty =
-      record {
-        last = keeps .last;
-        many = length-set (d .places) q place ∙ keeps .many;
-        places = keeps-put q place (some new) (empty .0) (inr (_, new, refl, refl, placed));
-        run =
-            record {
-              none-goes-on = λ z p a at c.
-                  ⊎-elim (λ e. not-yet (subst (λ (b : Train). Continues b (h .steps)) (sym (Option·some-injective new a (e .1))) c))
-                  (λ e. keeps .run .none-goes-on z p a (e .1) c) (at-put h q (some new) p a at);
-              goes-on-there = λ l.
-                  let there = keeps .run .goes-on-there l in
-                  let elsewhere : d .run .place ≡ q → ⊥ =
-                  λ e. Option·none-ne-some (there .0) (sym (empty .1) ∙ subst (λ (r : ℕ). At h r (there .0)) e (there .1)) in
-                  (there .0, stays-put q (some new) (d .run .place) (there .0) elsewhere (there .1), there .2);
-            };
-      }
-    where
-      new : Train
-      new = arriving h delay period duration
+  module _ (delay period duration : ℕ) where
+    -- The train of the history, and the place of the record.
+    abbrev new : Train
+    new = arriving h delay period duration
 
-      place : Place
-      place = placeFor (following (h .last)) (record { phase = delay; period = period; duration = duration })
+    abbrev arrived : Place
+    arrived = placeFor coming (record { phase = delay; period = period; duration = duration })
 
-      placed :
-          KeepsTrain (record { next = (following (h .last) + delay) % 2 ^ 32; period = period; duration = duration }) new (following (h .last)) (h .steps)
-      placed =
-          record { period = refl; duration = refl; away = delay; near = near; next = refl; stroke = stroke-first new (h .steps) delay refl }
+    pub keeps-admitted :
+        (q : ℕ) → delay ≤ maxTicks → EmptyAt h q → Keeps (put d q arrived) (putting h q (some new))
+    keeps-admitted q near empty =
+        record {
+          last = keeps .last;
+          many = length-set (d .places) q arrived ∙ keeps .many;
+          places = keeps-put q arrived (some new) (empty .0) (inr (_, new, refl, refl, placed));
+          run =
+              record {
+                none-goes-on = λ z p a at c.
+                    ⊎-elim (λ e. not-yet (subst⁻¹ (λ (b : Train). Continues b (h .steps)) (e .1) c))
+                    (λ e. keeps .run .none-goes-on z p a (e .1) c) (at-placed h q new p a at);
+                goes-on-there = λ l. still-there q (some new) (elsewhere l) l;
+              };
+        }
+      where
+        placed : KeepsTrain (record { next = (coming + delay) % 2 ^ 32; period = period; duration = duration }) new h
+        placed =
+            record { period = refl; duration = refl; away = delay; near = near; next = refl; stroke = stroke-first new (h .steps) delay refl }
 
-      -- a run of it does not go on before it has started
-      not-yet : Continues new (h .steps) → ⊥
-      not-yet c =
-          let z : h .steps - new .phase ≡ 0 = omega arith in
-          omega (arith, c .1, ap (λ (m : ℕ). m % period) z, zero-mod period)
+        -- a run of it does not go on before it has started
+        not-yet : Continues new (h .steps) → ⊥
+        not-yet c =
+            let z : h .steps - new .phase ≡ 0 = omega arith in
+            omega (arith, c .1, ap (λ (m : ℕ). m % period) z, zero-mod period)
+
+        -- the run in progress is at a place that is not empty
+        elsewhere : 0 < d .run .left → d .run .place ≡ q → ⊥
+        elsewhere l e =
+            let there = keeps .run .goes-on-there l in
+            Option·none-ne-some (there .0) (sym (empty .1) ∙ subst (λ (r : ℕ). At h r (there .0)) e (there .1))
 
   -- ---- After a withdrawal
 
@@ -118,90 +124,70 @@ module _ (d : Dispatcher) (h : History) (sound : Sound h) (keeps : Keeps d h) wh
         run = go (eqb (d .run .place) q) refl;
       }
     where
-      old : (p : ℕ) (a : Train) → At (putting h q none) p a → (p ≡ q → ⊥) × At h p a
-      old p a at = ⊎-elim (λ e. absurd (Option·none-ne-some a (e .1))) (λ e. e) (at-put h q none p a at)
-
       -- the run of the withdrawn train was the only one
-      ended-run :
-          (p : ℕ) (a : Train) → (p ≡ q → ⊥) → At h p a → Continues a (h .steps) → d .run .place ≡ q → Dec (d .run .left ≤ 0) → ⊥
-      ended-run p a f at c e (yes over) = keeps .run .none-goes-on (omega arith) p a at c
-      ended-run p a f at c e (no more) =
-          let there = keeps .run .goes-on-there (omega (arith, lt-of-not-le more)) in
-          let b : Train = there .0 in
-          f
-          (claims-one h sound p (d .run .place) a b at (there .1) (h .steps) (omega arith)
-          (continues-claims a (sound .strict p a at) (h .steps) c)
-          (continues-claims b (sound .strict (d .run .place) b (there .1)) (h .steps) (there .2 .goes))
-          ∙ e)
+      only-run : (p : ℕ) (a : Train) → (p ≡ q → ⊥) → At h p a → Continues a (h .steps) → d .run .place ≡ q → ⊥
+      only-run p a f at c e =
+          ⊎-elim (λ z. keeps .run .none-goes-on z p a at c)
+          (λ more.
+          let there = keeps .run .goes-on-there more in
+          let claimed = continues-claims (there .0) (h .steps) (there .2 .goes) in
+          f (one-train h sound p (d .run .place) a (there .0) at (there .1) (continues-claims a (h .steps) c) claimed .0 ∙ e))
+          (eq-zero-or-pos (d .run .left))
 
-      go : (b : Bool) → eqb (d .run .place) q ≡ b → KeepsRun (cond b (record { place = d .run .place; left = 0 }) (d .run)) (putting h q none)
+      go :
+          (b : Bool) → eqb (d .run .place) q ≡ b →
+          KeepsRun (cond b (record { place = d .run .place; left = 0 }) (d .run)) (putting h q none)
       go true e =
           record {
-            none-goes-on = λ z p a at c. ended-run p a (old p a at .0) (old p a at .1) c (eqb-true (d .run .place) q e) (decLe (d .run .left) 0);
+            none-goes-on = λ z p a at c.
+                let old = at-emptied h q p a at in only-run p a (old .0) (old .1) c (eqb-true (d .run .place) q e);
             goes-on-there = λ k. absurd (omega arith);
           }
       go false e =
           record {
-            none-goes-on = λ z p a at c. keeps .run .none-goes-on z p a (old p a at .1) c;
-            goes-on-there = λ k.
-                let there = keeps .run .goes-on-there k in
-                (there .0, stays-put q none (d .run .place) (there .0) (eqb-false (d .run .place) q e) (there .1), there .2);
+            none-goes-on = λ z p a at c. keeps .run .none-goes-on z p a (at-emptied h q p a at .1) c;
+            goes-on-there = still-there q none (eqb-false (d .run .place) q e);
           }
 
   -- ---- After a step
 
-  -- the history after a step
+  -- The history after a step.
   abbrev stepping-on : History
-  stepping-on = record { last = following (h .last); steps = suc (h .steps); places = h .places }
+  stepping-on = record { last = coming; steps = suc (h .steps); places = h .places }
 
   -- a train that does not start comes a tick nearer to its next stroke
-  nearer :
-      (p : Placed) (a : Train) → Strict a → KeepsTrain p a (following (h .last)) (h .steps) → (Begins a (h .steps) → ⊥) →
-      KeepsTrain p a (following (following (h .last))) (suc (h .steps))
-  nearer p a strict k f =
-      let some-way : 0 < k .away =
-      pos-of-ne-zero (λ z. f (stroke-here a strict (h .steps) (subst (λ (w : ℕ). NextStroke a (h .steps) w) z (k .stroke)))) in
-      let e : k .away ≡ suc (k .away - 1) = omega (arith, some-way) in
+  nearer : (p : Placed) (a : Train) → KeepsTrain p a h → (Begins a (h .steps) → ⊥) → KeepsTrain p a stepping-on
+  nearer p a k f =
+      let some-way : 0 < k .away = pos-of-ne-zero (λ z. f (stroke-now a (h .steps) (k .away) (k .stroke) .0 z)) in
       record {
         period = k .period;
         duration = k .duration;
         away = k .away - 1;
         near = omega (arith, k .near);
-        next = k .next ∙ sym (following-on (following (h .last)) (k .away) (following-small (h .last)) some-way);
-        stroke = stroke-nearer a strict (h .steps) (k .away - 1) (subst (λ (w : ℕ). NextStroke a (h .steps) w) e (k .stroke));
+        next = k .next ∙ sym (following-on coming (k .away) (following-small (h .last)) some-way);
+        stroke = stroke-nearer a (h .steps) (k .away) (k .stroke) some-way;
       }
 
   -- a place whose train does not start
   nearer-held :
       (q : ℕ) → q < placeCount → ((a : Train) → At h q a → Begins a (h .steps) → ⊥) →
-      KeepsHeld (heldAt d q) (heldBy h q) (following (following (h .last))) (suc (h .steps))
+      KeepsHeld (heldAt d q) (heldBy h q) stepping-on
   nearer-held q l f =
-      ⊎-elim (λ e. inl e)
-      (λ x. inr (x .0, x .1, x .2, x .3, nearer (x .0) (x .1) (sound .strict q (x .1) (x .3)) (x .4) (f (x .1) (x .3))))
-      (keeps .places q l)
-
-  -- a train whose next stroke is now has the next count
-  due-now : (away next : ℕ) → away ≡ 0 → next ≡ (following (h .last) + away) % 2 ^ 32 → next ≡ following (h .last)
-  due-now away next z e = omega (arith, following-small (h .last))
+      ⊎-elim (λ e. inl e) (λ x. inr (x .0, x .1, x .2, x .3, nearer (x .0) (x .1) (x .4) (f (x .1) (x .3)))) (keeps .places q l)
 
   -- a train that starts has its next stroke a period on
   started-train :
-      (p : Placed) (a : Train) → Strict a → a .period ≤ maxTicks → KeepsTrain p a (following (h .last)) (h .steps) → Begins a (h .steps) →
-      KeepsTrain (started p) a
-      (following (following (h .last))) (suc (h .steps))
+      (p : Placed) (a : Train) → Strict a → a .period ≤ maxTicks → KeepsTrain p a h → Begins a (h .steps) →
+      KeepsTrain (started p) a stepping-on
   started-train p a strict short k b =
-      let z : k .away ≡ 0 = stroke-now a strict (h .steps) (k .away) (k .stroke) b in
-      let due : p .next ≡ following (h .last) = due-now (k .away) (p .next) z (k .next) in
+      let due : p .next ≡ coming = due-now h p a k .1 b in
       let some-way : 0 < a .period = omega (arith, strict .some, strict .fits) in
       record {
         period = k .period;
         duration = k .duration;
         away = a .period - 1;
         near = omega (arith, short);
-        next =
-            ap (λ (n : ℕ). (n + p .period) % 2 ^ 32) due
-            ∙ ap (λ (n : ℕ). (following (h .last) + n) % 2 ^ 32) (k .period)
-            ∙ sym (following-on (following (h .last)) (a .period) (following-small (h .last)) some-way);
+        next = (λ i. (due i + k .period i) % 2 ^ 32) ∙ sym (following-on coming (a .period) (following-small (h .last)) some-way);
         stroke = stroke-again a strict (h .steps) b;
       }
 
@@ -219,84 +205,65 @@ module _ (d : Dispatcher) (h : History) (sound : Sound h) (keeps : Keeps d h) wh
       record {
         none-goes-on = λ z p b bt c.
             let cb = continues-before b (sound .strict p b bt) (h .steps) c in
-            let same : p ≡ q = claims-one h sound p q b a bt at (h .steps) (omega arith) cb (ran .claims) in
-            let one : b ≡ a = at-one h q b a (subst (λ (r : ℕ). At h r b) same bt) at in
-            run-over a (sound .strict q a at) (h .steps) (subst (Ran a (h .steps)) z ran) (subst (λ (x : Train). Continues x (suc (h .steps))) one c);
-        goes-on-there = λ l. (a, subst (λ (r : ℕ). At h r a) (sym e) at, run-on a (sound .strict q a at) (h .steps) (run .left) ran l);
+            let one : b ≡ a = one-train h sound p q b a bt at cb (ran .claims) .1 in
+            run-over a strict (h .steps) (subst (Ran a (h .steps)) z ran) (subst (λ (x : Train). Continues x (suc (h .steps))) one c);
+        goes-on-there = λ l. (a, subst⁻¹ (λ (r : ℕ). At h r a) e at, run-on a strict (h .steps) (run .left) ran l);
       }
-
-  -- a step in which no train starts
-  keeps-quiet :
-      (run : Run) → ((q : ℕ) (a : Train) → At h q a → Begins a (h .steps) → ⊥) → KeepsRun run stepping-on →
-      Keeps (record { places = d .places; last = following (h .last); run = run }) stepping-on
-  keeps-quiet run f r =
-      record { last = refl; many = keeps .many; places = λ q l. nearer-held q l (f q); run = r }
-
-  pub keeps-idle : (run : Run) → run .left ≡ 0 → Does h idle → Keeps (record { places = d .places; last = following (h .last); run = run }) stepping-on
-  keeps-idle run z nobody = keeps-quiet run (λ q a at b. nobody q a at (begins-claims a (sound .strict q a at) (h .steps) b)) (idle-run run z nobody)
-
-  pub keeps-goes-on :
-      (q : ℕ) (a : Train) (left : ℕ) → At h q a → Running a (h .steps) left →
-      Keeps (record { places = d .places; last = following (h .last); run = record { place = q; left = left - 1 } }) stepping-on
-  keeps-goes-on q a left at running =
-      keeps-quiet (record { place = q; left = left - 1 })
-      (λ p b bt begins.
-      let same : p ≡ q =
-      claims-one h sound p q b a bt at (h .steps) (omega arith) (begins-claims b (sound .strict p b bt) (h .steps) begins)
-      (continues-claims a strict (h .steps) (running .goes)) in
-      let one : b ≡ a = at-one h q b a (subst (λ (r : ℕ). At h r b) same bt) at in
-      begins-not-continues a strict (h .steps) (subst (λ (x : Train). Begins x (h .steps)) one begins) (running .goes))
-      (worked-run q a (record { place = q; left = left - 1 }) at refl (running-ran a strict (h .steps) left running))
     where
       strict : Strict a
       strict = sound .strict q a at
 
-  -- the places after a start: the train that starts has its next stroke a period on, and the others are a tick nearer to theirs
-  started-held :
-      (q : ℕ) (a : Train) → q < placeCount → At h q a → Begins a (h .steps) → (p : ℕ) → p < placeCount →
-      KeepsHeld (getD (set (d .places) q (startedPlace (getD (d .places) q emptyPlace))) p emptyPlace .held) (heldBy h p)
-      (following (following (h .last))) (suc (h .steps))
-  started-held q a l at begins p k = ⊎-elim same other (same-or-not p q)
+  -- a step in which no train starts
+  keeps-quiet :
+      (run : Run) → ((q : ℕ) (a : Train) → At h q a → Begins a (h .steps) → ⊥) → KeepsRun run stepping-on →
+      Keeps (record { places = d .places; last = coming; run = run }) stepping-on
+  keeps-quiet run f r = record { last = refl; many = keeps .many; places = λ q l. nearer-held q l (f q); run = r }
+
+  pub keeps-idle :
+      (run : Run) → run .left ≡ 0 → Does h idle → Keeps (record { places = d .places; last = coming; run = run }) stepping-on
+  keeps-idle run z nobody =
+      keeps-quiet run (λ q a at b. nobody q a at (starts-claims h sound q (a, at, b))) (idle-run run z nobody)
+
+  pub keeps-goes-on :
+      (q : ℕ) (a : Train) (left : ℕ) → At h q a → Running a (h .steps) left →
+      Keeps (record { places = d .places; last = coming; run = record { place = q; left = left - 1 } }) stepping-on
+  keeps-goes-on q a left at running =
+      keeps-quiet (record { place = q; left = left - 1 })
+      (λ p b bt begins. not-both-ways h sound p q (b, bt, begins) (a, at, running .goes))
+      (worked-run q a (record { place = q; left = left - 1 }) at refl (running-ran a (h .steps) left running))
+
+  -- the train that starts has its next stroke a period on, and the others are a tick nearer to theirs
+  pub keeps-starts :
+      (q : ℕ) (a : Train) → q < placeCount → At h q a → Begins a (h .steps) →
+      Keeps (starting (record { places = d .places; last = coming; run = d .run }) q .dispatcher) stepping-on
+  keeps-starts q a l at begins =
+      record {
+        last = refl;
+        many = length-set (d .places) q place ∙ keeps .many;
+        places = put-held (λ (p : ℕ) (held : Held). KeepsHeld held (heldBy h p) stepping-on) q place l here others;
+        run = worked-run q a (record { place = q; left = restOf (heldAt d q) }) at refl (subst (Ran a (h .steps)) rest-is ran);
+      }
     where
+      strict : Strict a
+      strict = sound .strict q a at
+
+      x : (p : Placed) × (heldAt d q ≡ Holds p) × KeepsTrain p a h
+      x = kept d h sound keeps q a at
+
       place : Place
       place = startedPlace (getD (d .places) q emptyPlace)
 
-      same : p ≡ q → KeepsHeld (getD (set (d .places) q place) p emptyPlace .held) (heldBy h p) (following (following (h .last))) (suc (h .steps))
-      same e =
-          let x = kept d h sound keeps q a at in
-          let held-is : getD (set (d .places) q place) p emptyPlace .held ≡ startedHeld (Holds (x .0)) =
-          ap (λ (r : ℕ). getD (set (d .places) q place) r emptyPlace .held) e
-          ∙ ap (λ (y : Place). y .held) (getD-set-same (d .places) q place emptyPlace (subst (λ (n : ℕ). q < n) (sym (keeps .many)) l))
-          ∙ ap startedHeld (x .1) in
-          inr (
-            _,
-            a,
-            held-is,
-            subst (λ (r : ℕ). At h r a) (sym e) at,
-            started-train (x .0) a (sound .strict q a at) (sound .short q a at) (x .2) begins,
-          )
+      here : KeepsHeld (place .held) (heldBy h q) stepping-on
+      here = inr (_, a, ap startedHeld (x .1), at, started-train (x .0) a strict (sound .short q a at) (x .2) begins)
 
-      other : (p ≡ q → ⊥) → KeepsHeld (getD (set (d .places) q place) p emptyPlace .held) (heldBy h p) (following (following (h .last))) (suc (h .steps))
-      other f =
-          subst (λ (y : Place). KeepsHeld (y .held) (heldBy h p) (following (following (h .last))) (suc (h .steps)))
-          (sym (getD-set-other (d .places) q p place emptyPlace f))
-          (nearer-held p k
+      others : (p : ℕ) → p < placeCount → (p ≡ q → ⊥) → KeepsHeld (heldAt d p) (heldBy h p) stepping-on
+      others p k f =
+          nearer-held p k
           (λ b bt also.
-          f
-          (claims-one h sound p q b a bt at (h .steps) (omega arith) (begins-claims b (sound .strict p b bt) (h .steps) also)
-          (begins-claims a (sound .strict q a at) (h .steps) begins))))
+          f (one-train h sound p q b a bt at (starts-claims h sound p (b, bt, also)) (starts-claims h sound q (a, at, begins)) .0))
 
-  pub keeps-starts :
-      (q : ℕ) (a : Train) → q < placeCount → At h q a → Begins a (h .steps) →
-      Keeps (starting (record { places = d .places; last = following (h .last); run = d .run }) q .dispatcher) stepping-on
-  keeps-starts q a l at begins =
-      let x = kept d h sound keeps q a at in
-      let rest-is : a .duration - 1 ≡ restOf (heldAt d q) = ap (λ (n : ℕ). n - 1) (sym (x .2 .duration)) ∙ sym (ap restOf (x .1)) in
-      record {
-        last = refl;
-        many = length-set (d .places) q (startedPlace (getD (d .places) q emptyPlace)) ∙ keeps .many;
-        places = started-held q a l at begins;
-        run =
-            worked-run q a (record { place = q; left = restOf (heldAt d q) }) at refl
-            (subst (Ran a (h .steps)) rest-is (started-ran a (sound .strict q a at) (h .steps) begins));
-      }
+      ran : Ran a (h .steps) (a .duration - 1)
+      ran = started-ran a strict (h .steps) begins
+
+      rest-is : a .duration - 1 ≡ restOf (heldAt d q)
+      rest-is = ap (λ (n : ℕ). n - 1) (sym (x .2 .duration)) ∙ sym (ap restOf (x .1))
