@@ -6,16 +6,15 @@ use mathlib.Core.Path.{_≡_, refl, sym, ap, subst, subst⁻¹, _∙_}
 use mathlib.Core.Bool.{Bool, true, false}
 use mathlib.Core.Logic.{_↔_, _⊎_, inl, inr, ⊎-elim, dite}
 use mathlib.Core.List.{List, [], _∷_, map}
-use mathlib.Core.Option.{none, some}
+use mathlib.Core.Option.{some}
 use mathlib.Mathlib.Data.Bool.Basic.{eq-false-eq-not-eq-true}
 use native.Mathlib.Nat.{lt-of-not-le, eq-zero-or-pos}
 use native.Mathlib.Decide.{ℕ-discrete, decLe}
 use native.Mathlib.Omega.{arith}
-use Rattle.refusal.specs.declared.Refusal.{Refusal}
-use Rattle.refusal.specs.declared.Refusal.the-variants.{NotATrain, NoEmptyPlace, Collision, NoTrainThere, WrongCount}
+use Rattle.refusal.specs.declared.Refusal.the-variants.{NotATrain, NoEmptyPlace, NoTrainThere, WrongCount}
 use Rattle.refusal.specs.Order.{None, First}
 use Rattle.train.specs.declared.Train.{Train}
-use Rattle.train.specs.Claims.{Strict, Limits, Least}
+use Rattle.train.specs.Claims.{Limits, Least}
 use Rattle.train.specs.Answer.{withinLimits}
 use Rattle.train.proofs.Limits.{limits-is}
 use Rattle.dispatcher.specs.declared.Held.{Held}
@@ -31,7 +30,7 @@ use Rattle.dispatcher.specs.declared.Admitted.{Admitted}
 use Rattle.dispatcher.specs.declared.Withdrew.{Withdrew}
 use Rattle.dispatcher.specs.declared.Stepped.{Stepped}
 use Rattle.dispatcher.specs.Calls.{Call, admit, withdraw, step, idle, starts, Event, admitted, refused, callOf}
-use Rattle.dispatcher.specs.History.{placeCount, following, History, heldBy, EmptyAt, arriving, Meets, OutOfLimits, meetingCheck, order, Does, Right, becomes, Rights}
+use Rattle.dispatcher.specs.History.{placeCount, following, History, heldBy, EmptyAt, arriving, Meets, order, Does, Right, becomes, Rights}
 use Rattle.dispatcher.specs.Answer.{isSought, lowest, heldAt, nextCount, placeFor, put, admission, withdrawal, stepping}
 use Rattle.dispatcher.specs.Played.{admissionEvent, withdrawalEvent, tickEvent, eventOf, recordAfter, logOf}
 use Rattle.dispatcher.proofs.Answers.{admission-not-a-train, admission-no-place, admission-collides, admission-placed, withdrawal-none, withdrawal-outside, withdrawal-done, stepping-wrong, stepping-goes-on, stepping-starts, stepping-idle}
@@ -66,7 +65,7 @@ module _ (d : Dispatcher) (h : History) (sound : Sound h) (keeps : Keeps d h) wh
     abbrev GoodAdmission : Admitted → Type 0
     GoodAdmission r = Good (admissionEvent delay period duration (r .answer)) (r .dispatcher)
 
-    -- The code's test for a collision; the lowest empty place, and the lowest place that colliding.
+    -- The code's test for a collision; the lowest empty place, and the lowest place that collides.
     abbrev colliding : Held → Bool
     colliding = isSought (sought.Colliding (nextCount d) asked)
 
@@ -76,7 +75,7 @@ module _ (d : Dispatcher) (h : History) (sound : Sound h) (keeps : Keeps d h) wh
     abbrev met : ℕ
     met = lowest colliding (d .places)
 
-    -- What is so of the lowest place of a train that colliding.
+    -- The train that arrives would meet the one at a place.
     abbrev MeetsAt : ℕ → Type 0
     MeetsAt q = Meets h new (heldBy h q)
 

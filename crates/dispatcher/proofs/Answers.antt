@@ -67,48 +67,36 @@ module _ (run : Run) (q : ℕ) where
 -- ---- What `admit` answers
 
 module _ (d : Dispatcher) (train : Train) where
+  -- The lowest empty place, and the lowest place of a train that collides.
+  abbrev lowest-empty : ℕ
+  lowest-empty = lowest (isSought sought.Empty) (d .places)
+
+  abbrev lowest-met : ℕ
+  lowest-met = lowest (isSought (sought.Colliding (nextCount d) train)) (d .places)
+
   pub admission-not-a-train : withinLimits train ≡ false → admission d train ≡ refusedAdmission d NotATrain
   unfolding admission
   admission-not-a-train e = simp e
 
   module _ (limits : withinLimits train ≡ true) where
-    pub admission-no-place :
-        placeCount ≤ lowest (isSought sought.Empty) (d .places) →
-        admission d train ≡ refusedAdmission d NoEmptyPlace
+    pub admission-no-place : placeCount ≤ lowest-empty → admission d train ≡ refusedAdmission d NoEmptyPlace
     unfolding admission
-    admission-no-place h = simp (limits, le-ltb (lowest (isSought sought.Empty) (d .places)) placeCount h)
+    admission-no-place h = simp (limits, le-ltb lowest-empty placeCount h)
 
-    module _ (room : lowest (isSought sought.Empty) (d .places) < placeCount) where
-      pub admission-collides :
-          lowest (isSought (sought.Colliding (nextCount d) train)) (d .places) < placeCount →
-          admission d train ≡ refusedAdmission d (Collision (lowest (isSought (sought.Colliding (nextCount d) train)) (d .places)))
+    module _ (room : lowest-empty < placeCount) where
+      pub admission-collides : lowest-met < placeCount → admission d train ≡ refusedAdmission d (Collision lowest-met)
       unfolding admission
-      admission-collides h =
-          simp (
-            limits,
-            lt-ltb (lowest (isSought sought.Empty) (d .places)) placeCount room,
-            lt-ltb (lowest (isSought (sought.Colliding (nextCount d) train)) (d .places)) placeCount h,
-          )
+      admission-collides h = simp (limits, lt-ltb lowest-empty placeCount room, lt-ltb lowest-met placeCount h)
 
       pub admission-placed :
-          placeCount ≤ lowest (isSought (sought.Colliding (nextCount d) train)) (d .places) →
+          placeCount ≤ lowest-met →
           admission d train
-          ≡ record {
-            answer = admissions.At (lowest (isSought sought.Empty) (d .places));
-            dispatcher = put d (lowest (isSought sought.Empty) (d .places)) (placeFor (nextCount d) train);
-          }
+          ≡ record { answer = admissions.At lowest-empty; dispatcher = put d lowest-empty (placeFor (nextCount d) train) }
       unfolding admission
-      admission-placed h =
-          simp (
-            limits,
-            lt-ltb (lowest (isSought sought.Empty) (d .places)) placeCount room,
-            le-ltb (lowest (isSought (sought.Colliding (nextCount d) train)) (d .places)) placeCount h,
-          )
+      admission-placed h = simp (limits, lt-ltb lowest-empty placeCount room, le-ltb lowest-met placeCount h)
 
   -- the same, of the numbers that the code finds: the lowest empty place, the next count, the lowest place that collides
-  module _
-      (limits : withinLimits train ≡ true)
-      (empty : ℕ) (empty-is : empty ≡ lowest (isSought sought.Empty) (d .places)) where
+  module _ (limits : withinLimits train ≡ true) (empty : ℕ) (empty-is : empty ≡ lowest-empty) where
     pub admits-no-place : placeCount ≤ empty → refusedAdmission d NoEmptyPlace ≡ admission d train
     admits-no-place h = sym (admission-no-place limits (subst (λ (n : ℕ). placeCount ≤ n) empty-is h))
 
@@ -116,10 +104,10 @@ module _ (d : Dispatcher) (train : Train) where
         (room : empty < placeCount)
         (count met : ℕ) (count-is : count ≡ nextCount d)
         (met-is : met ≡ lowest (isSought (sought.Colliding count train)) (d .places)) where
-      there : lowest (isSought sought.Empty) (d .places) < placeCount
+      there : lowest-empty < placeCount
       there = subst (λ (n : ℕ). n < placeCount) empty-is room
 
-      met-there : met ≡ lowest (isSought (sought.Colliding (nextCount d) train)) (d .places)
+      met-there : met ≡ lowest-met
       met-there = met-is ∙ ap (λ (n : ℕ). lowest (isSought (sought.Colliding n train)) (d .places)) count-is
 
       pub admits-collision : met < placeCount → refusedAdmission d (Collision met) ≡ admission d train
@@ -170,6 +158,13 @@ module _ (d : Dispatcher) (q : ℕ) where
 -- ---- What `step` answers
 
 module _ (d : Dispatcher) (count : ℕ) where
+  -- The record with the new count, and the lowest place that is due.
+  abbrev counted : Dispatcher
+  counted = record { places = d .places; last = count; run = d .run }
+
+  abbrev lowest-due : ℕ
+  lowest-due = lowest (isSought (sought.Due count)) (d .places)
+
   pub stepping-wrong : (count ≡ nextCount d → ⊥) → stepping d count ≡ record { answer = tick.Refused WrongCount; dispatcher = d }
   unfolding stepping
   stepping-wrong n = simp (ne-eqb count (nextCount d) n)
@@ -186,37 +181,18 @@ module _ (d : Dispatcher) (count : ℕ) where
     stepping-goes-on h = simp (eq-eqb count (nextCount d) right, lt-ltb 0 (d .run .left) h)
 
     module _ (over : d .run .left ≤ 0) where
-      pub stepping-starts :
-          lowest (isSought (sought.Due count)) (d .places) < placeCount →
-          stepping d count
-          ≡ starting (record { places = d .places; last = count; run = d .run }) (lowest (isSought (sought.Due count)) (d .places))
+      pub stepping-starts : lowest-due < placeCount → stepping d count ≡ starting counted lowest-due
       unfolding stepping
-      stepping-starts h =
-          simp (
-            eq-eqb count (nextCount d) right,
-            le-ltb 0 (d .run .left) over,
-            lt-ltb (lowest (isSought (sought.Due count)) (d .places)) placeCount h,
-          )
+      stepping-starts h = simp (eq-eqb count (nextCount d) right, le-ltb 0 (d .run .left) over, lt-ltb lowest-due placeCount h)
 
-      pub stepping-idle :
-          placeCount ≤ lowest (isSought (sought.Due count)) (d .places) →
-          stepping d count ≡ record { answer = tick.Idle; dispatcher = record { places = d .places; last = count; run = d .run } }
+      pub stepping-idle : placeCount ≤ lowest-due → stepping d count ≡ record { answer = tick.Idle; dispatcher = counted }
       unfolding stepping
-      stepping-idle h =
-          simp (
-            eq-eqb count (nextCount d) right,
-            le-ltb 0 (d .run .left) over,
-            le-ltb (lowest (isSought (sought.Due count)) (d .places)) placeCount h,
-          )
+      stepping-idle h = simp (eq-eqb count (nextCount d) right, le-ltb 0 (d .run .left) over, le-ltb lowest-due placeCount h)
 
       -- the same, of the place that the code finds
-      module _ (due : ℕ) (due-is : due ≡ lowest (isSought (sought.Due count)) (d .places)) where
-        pub steps-start : due < placeCount → starting (record { places = d .places; last = count; run = d .run }) due ≡ stepping d count
-        steps-start h =
-            ap (starting (record { places = d .places; last = count; run = d .run })) due-is
-            ∙ sym (stepping-starts (subst (λ (n : ℕ). n < placeCount) due-is h))
+      module _ (due : ℕ) (due-is : due ≡ lowest-due) where
+        pub steps-start : due < placeCount → starting counted due ≡ stepping d count
+        steps-start h = ap (starting counted) due-is ∙ sym (stepping-starts (subst (λ (n : ℕ). n < placeCount) due-is h))
 
-        pub steps-idle :
-            placeCount ≤ due →
-            record { answer = tick.Idle; dispatcher = record { places = d .places; last = count; run = d .run } } ≡ stepping d count
+        pub steps-idle : placeCount ≤ due → record { answer = tick.Idle; dispatcher = counted } ≡ stepping d count
         steps-idle h = sym (stepping-idle (subst (λ (n : ℕ). placeCount ≤ n) due-is h))

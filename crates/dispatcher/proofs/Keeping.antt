@@ -30,8 +30,8 @@ use Rattle.dispatcher.proofs.Counts.{wait-back, following-small}
 
 -- ---- A record keeps a history
 
--- A placed train is in step with a train of the history, where the next step is tick n and has this count: the count of its next start is as
--- many steps on as its next stroke is ticks away.
+-- A placed train is in step with a train of the history, where the next step is tick n and has this count: the count of its next start
+-- is as many steps on as its next stroke is ticks away.
 pub record InStep (p : Placed) (a : Train) (count n : ℕ) : Type 0 where
   pub period : p .period ≡ a .period
   pub duration : p .duration ≡ a .duration

@@ -34,7 +34,8 @@ module _ (test : Held → Bool) where
   unfolding lowest
   lowest-next p ps e = ap (λ (b : Bool). cond b 0 (suc (lowest test ps))) e
 
-  pub lowest-le : (ps : List Place) → lowest test ps ≤ length ps
+  -- it is a place, or how many there are
+  lowest-le : (ps : List Place) → lowest test ps ≤ length ps
   unfolding lowest
   lowest-le [] = omega arith
   lowest-le (p ∷ ps) = go (lowest-le ps) (test (p .held)) refl
@@ -83,7 +84,7 @@ module _ (test : Held → Bool) where
   clash h e f = eq-false-eq-not-eq-true (test h) .1 f e
 
   -- a place that passes is the lowest, where none before it passes
-  pub lowest-is :
+  lowest-is :
       (ps : List Place) (i : ℕ) →
       i < length ps → test (getD ps i emptyPlace .held) ≡ true →
       ((j : ℕ) → j < i → test (getD ps j emptyPlace .held) ≡ false) →
@@ -97,7 +98,7 @@ module _ (test : Held → Bool) where
       not-higher l = clash _ e (lowest-before ps i l)
 
   -- where none passes, the answer is how many they are
-  pub lowest-none :
+  lowest-none :
       (ps : List Place) → ((j : ℕ) → j < length ps → test (getD ps j emptyPlace .held) ≡ false) → lowest test ps ≡ length ps
   lowest-none ps none = omega (arith, not-lower, lowest-le ps)
     where

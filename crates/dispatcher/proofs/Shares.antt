@@ -8,7 +8,7 @@ use mathlib.Core.Logic.{_↔_, _⊎_, inl, inr, ⊎-elim, Iff·trans}
 use mathlib.Core.List.{List, [], _∷_, _++_}
 use mathlib.Core.Option.{none, some}
 use mathlib.Mathlib.Data.Bool.Basic.{eq-false-eq-not-eq-true, partialOrderLaws}
-use native.Mathlib.Nat.{add-zero, add-suc, suc-add, zero-add}
+use native.Mathlib.Nat.{add-zero, zero-add}
 use native.Mathlib.Omega.{arith}
 use lib.ListN.{length, getD, take, length-append, List·getD-append}
 use lib.Seq.{getD-append-add, getD-set-same, drop-cons}
@@ -63,7 +63,8 @@ served h sound (e ∷ log) rights q a at stays i l =
           continues = Iff·trans (does (goes-on q)) (at-only h q a at (λ (b : Train). Continues b (h .steps)));
         })
     go (stepped count doing) right behind (suc i) l =
-        subst (λ (t : ℕ). Served q a t (getD (ticks log) i idle)) (suc-add (h .steps) i ∙ sym (add-suc (h .steps) i)) (behind i (omega arith))
+        let e : suc (h .steps) + i ≡ h .steps + suc i = omega arith in
+        subst (λ (t : ℕ). Served q a t (getD (ticks log) i idle)) e (behind i (omega arith))
     go (refused call number place) right behind i l = behind i l
 
 -- ---- A stay
