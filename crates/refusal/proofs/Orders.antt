@@ -19,10 +19,8 @@ unfolding First
 first-only [] r s f g = absurd f
 first-only (c ∷ order) r s f g =
     ⊎-elim
-    (λ (h : c .condition × (c .refusal ≡ r)).
-    ⊎-elim (λ (k : c .condition × (c .refusal ≡ s)). sym (h .1) ∙ k .1) (λ (k : (c .condition → ⊥) × First order s). absurd (k .0 (h .0))) g)
-    (λ (h : (c .condition → ⊥) × First order r).
-    ⊎-elim (λ (k : c .condition × (c .refusal ≡ s)). absurd (h .0 (k .0))) (λ (k : (c .condition → ⊥) × First order s). first-only order r s (h .1) (k .1)) g)
+    (λ h. ⊎-elim (λ k. sym (h .1) ∙ k .1) (λ k. absurd (k .0 (h .0))) g)
+    (λ h. ⊎-elim (λ k. absurd (h .0 (k .0))) (λ k. first-only order r s (h .1) (k .1)) g)
     f
 
 -- where there is a first refusal, some condition holds
@@ -30,7 +28,7 @@ pub first-not-none : (order : List Check) (r : Refusal) → First order r → No
 unfolding First None
 first-not-none [] r f n = f
 first-not-none (c ∷ order) r f n =
-    ⊎-elim (λ (h : c .condition × (c .refusal ≡ r)). n .0 (h .0)) (λ (h : (c .condition → ⊥) × First order r). first-not-none order r (h .1) (n .1)) f
+    ⊎-elim (λ h. n .0 (h .0)) (λ h. first-not-none order r (h .1) (n .1)) f
 
 -- of two orders, the first condition that holds is in the one, or in the other where none of the one holds
 pub first-of-both :
@@ -44,6 +42,7 @@ first-of-both (c ∷ earlier) later r =
       ⊎-elim (⊎-elim (λ h. inl h) (λ h. inr (h .0, rest .1 (inl (h .1))))) (λ h. inr (h .0 .0, rest .1 (inr (h .0 .1, h .1)))),
     )
 
+-- and none of both holds exactly where none of the one and none of the other does
 pub none-of-both : (earlier later : List Check) → None (earlier ++ later) ↔ (None earlier × None later)
 unfolding None
 none-of-both [] later = ((λ n. (tt, n)), (λ n. n .1))
