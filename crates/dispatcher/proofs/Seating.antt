@@ -30,6 +30,7 @@ record Seated (h : History) (ts : List Train) (i : ℕ) : Type 0 where
   placed : (p : ℕ) → p < i → At h p (trainAt ts p)
   others : (p : ℕ) → i ≤ p → p < placeCount → heldBy h p ≡ none
 
+-- a fresh start has seated no train
 seated-first : (count : ℕ) (ts : List Train) → Seated (beginning count) ts 0
 seated-first count ts =
     record {
@@ -39,6 +40,7 @@ seated-first count ts =
       others = λ p l k. getD-replicate {A = Option Train} placeCount p none none k;
     }
 
+-- the calls of these answers
 seated-calls : (q : ℕ) (ts : List Train) → map callOf (seated q ts) ≡ admissions ts
 unfolding seated
 seated-calls q [] = refl
@@ -87,6 +89,7 @@ module _ (ts : List Train) (few : length ts ≤ placeCount)
                 let inside : p < placeCount = subst (λ (n : ℕ). p < n) (s .many) (at-inside h p b at) in
                 Option·none-ne-some b (sym (s .others p (omega arith) inside) ∙ at)
 
+    -- and after its admission one more train is seated
     seat-next : Seated (becomes h event) ts (suc i)
     unfolding becomes
     seat-next =
