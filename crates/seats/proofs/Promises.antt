@@ -24,7 +24,8 @@ accepted-seated :
 accepted-seated row L d accepted count =
     let so = judge.promises .accept-schedulable row .0 (L, d, accepted) in
     let few : length (trains row) ≤ placeCount = omega (arith, passed-few row (so .0), trains-length row) in
-    dispatcher.promises .all-seated count (trains row) few (λ i. table.promises .trains-limits row i (so .0)) (so .1)
+    dispatcher.promises .all-seated count (trains row) few (λ i. table.promises .trains-limits row i (so .0))
+    (λ i j l k f t both. so .1 t i j l k f (both .0) (both .1))
 
 pub promises : Promises
 promises = record { accepted-seated = accepted-seated }

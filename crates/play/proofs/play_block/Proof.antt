@@ -8,6 +8,7 @@ use Rattle.play.proofs.play_block.Tie as tie
 abbrev Inv-loop : tie.InvT-loop
 Inv-loop block length lines₀ play₀ at₀ lines play at = Unit {0}
 
+-- the bytes of the block that are left, of the 65,000 of BLOCK
 abbrev μ-loop : tie.MeasureT-loop
 μ-loop block length lines₀ play₀ at₀ lines play at = 65000 - at
 
