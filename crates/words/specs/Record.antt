@@ -16,7 +16,7 @@ use mathlib.Core.Bool.{cond}
 use mathlib.Core.List.{List, [], _∷_, _++_, flatMap}
 use lib.Dec.{eqb}
 use lib.ListN.{getD}
-use Rattle.lent.specs.Lent.{over}
+use lib.Seq.{sets}
 use Rattle.dispatcher.specs.declared.Held.{Held}
 use Rattle.dispatcher.specs.declared.Held.the-variants.{Empty, Holds}
 use Rattle.dispatcher.specs.declared.Place.{Place}
@@ -85,10 +85,10 @@ tailWords d = d .last ∷ d .run .place ∷ d .run .left ∷ []
 unfoldable pub wordsOf : Dispatcher → List ℕ
 wordsOf d = flatMap placeWords (d .places) ++ tailWords d
 
--- A place written over the words of another.
+-- A place written over the words of another, one word after the other.
 abbrev pub placeOver : List ℕ → ℕ → Place → List ℕ
-placeOver ws q place = over ws (q * placeLength) (placeWords place)
+placeOver ws q place = sets ws (q * placeLength) (placeWords place)
 
 -- The last count and the run in progress of a record, written over those of the words.
 abbrev pub tailOver : List ℕ → Dispatcher → List ℕ
-tailOver ws d = over ws lastAt (tailWords d)
+tailOver ws d = sets ws lastAt (tailWords d)

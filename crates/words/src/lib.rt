@@ -15,11 +15,12 @@ use train::Train;
 ghost use Prim.Native.Nat.{_+_, _*_, _<_, _≤_};
 ghost use mathlib.Core.Path.{_≡_};
 ghost use mathlib.Core.List.{[], _∷_};
-ghost use Rattle.lent.specs.Lent.{over};
+ghost use lib.Seq.{sets};
 ghost use Rattle.dispatcher.specs.History.{placeCount};
 ghost use Rattle.dispatcher.specs.Answer.{isSought, lowest, fresh, admission, withdrawal, starting, stepping};
 ghost use Rattle.words.specs.Record.{placeWords, lastAt, wordCount, placeIn, placesIn, recordIn, placeOver, tailOver};
 ghost use Rattle.words.specs.Answer.{freshIn, admittedIn, withdrewIn, steppedIn};
+ghost use Rattle.words.specs.Inside.{startedIn};
 
 // The words of a place: whether it holds a train, where 0 says no, then its next count, its period and its duration.
 const PLACE: usize = 4;
@@ -35,6 +36,13 @@ const LEFT: usize = LAST + 2;
 
 // How many words a dispatcher has.
 pub const LENGTH: usize = LAST + 3;
+
+// A word as a place.
+fn wide(word: u32) -> usize
+    ensures { λ r. ⌜ r ≡ word ⌝ }
+{
+    word as usize
+}
 
 // What a place holds.
 fn place_at(words: &[u32; LENGTH], place: usize) -> Place
@@ -71,7 +79,7 @@ fn lowest(words: &[u32; LENGTH], sought: Sought) -> usize
 
 fn put_four(words: &mut [u32; LENGTH], at: usize, first: u32, second: u32, third: u32, fourth: u32)
     requires { ⌜ at + 4 ≤ wordCount ⌝ }
-    ensures { λ _. ⌜ now (words .exit) ≡ over (now (words .entry)) at (first ∷ second ∷ third ∷ fourth ∷ []) ⌝ }
+    ensures { λ _. ⌜ now (words .exit) ≡ sets (now (words .entry)) at (first ∷ second ∷ third ∷ fourth ∷ []) ⌝ }
 {
     words[at] = first;
     words[at + 1] = second;
@@ -93,7 +101,7 @@ fn put_place(words: &mut [u32; LENGTH], place: usize, here: Place)
 
 // The last count and the run in progress.
 fn put_tail(words: &mut [u32; LENGTH], last: u32, place: u32, left: u32)
-    ensures { λ _. ⌜ now (words .exit) ≡ over (now (words .entry)) lastAt (last ∷ place ∷ left ∷ []) ⌝ }
+    ensures { λ _. ⌜ now (words .exit) ≡ sets (now (words .entry)) lastAt (last ∷ place ∷ left ∷ []) ⌝ }
 {
     words[LAST] = last;
     words[RUNS] = place;
@@ -171,6 +179,7 @@ pub fn withdraw(words: &mut [u32; LENGTH], place: usize) -> Withdrawal
 // The train at a place starts, and this is the last count.
 fn start(words: &mut [u32; LENGTH], place: usize, count: u32)
     requires { ⌜ place < placeCount ⌝ }
+    ensures { λ _. ⌜ now (words .exit) ≡ startedIn (now (words .entry)) place count ⌝ }
 {
     let here = place_at(words, place);
     put_place(words, place, here.started());
@@ -188,8 +197,9 @@ pub fn step(words: &mut [u32; LENGTH], count: u32) -> Tick
     let place = words[RUNS];
     let left = words[LEFT];
     if 0 < left {
+        let running = wide(place);
         put_tail(words, count, place, left - 1);
-        return Tick::GoesOn(place as usize);
+        return Tick::GoesOn(running);
     }
     let due = lowest(words, Sought::Due(count));
     if Dispatcher::PLACES <= due {
