@@ -3,3 +3,5 @@
 pub mod Standing
 pub mod Stores
 pub mod Ways
+pub mod Played
+pub mod Promises

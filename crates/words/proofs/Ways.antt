@@ -7,7 +7,7 @@ use mathlib.Core.Path.{_≡_, refl, sym, ap, _∙_}
 use mathlib.Core.Bool.{true, false}
 use mathlib.Core.List.{List, [], _∷_}
 use native.Mathlib.Omega.{arith}
-use lib.ListN.{length, getD, set}
+use lib.ListN.{getD, set}
 use lib.Seq.{sets, getD-set-same}
 use Rattle.refusal.specs.declared.Refusal.{Refusal}
 use Rattle.refusal.specs.declared.Refusal.the-variants.{NoTrainThere, WrongCount}
@@ -25,7 +25,7 @@ use Rattle.dispatcher.specs.declared.Stepped.{Stepped}
 use Rattle.dispatcher.specs.History.{placeCount}
 use Rattle.dispatcher.specs.Answer.{isSought, lowest, emptyPlace, refusedAdmission, nextCount, put, admission, ended, withdrawal, startedPlace, restOf, starting, stepping}
 use Rattle.dispatcher.proofs.Answers.{withdrawal-outside, withdrawal-none, withdrawal-done, stepping-wrong, stepping-goes-on, steps-start, steps-idle}
-use Rattle.words.specs.Record.{lastAt, placeIn, placesIn, recordIn, heldWords, placeOver, tailOver}
+use Rattle.words.specs.Record.{lastAt, placeIn, placesIn, recordIn, placeOver}
 use Rattle.words.specs.Answer.{admittedIn, withdrewIn, steppedIn}
 use Rattle.words.specs.Inside.{startedIn}
 use Rattle.words.proofs.Standing.{places-length, place-at, tests-there}

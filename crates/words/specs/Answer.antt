@@ -8,7 +8,6 @@
 use Prim.Native.Nat.{ℕ}
 use mathlib.Core.List.{List}
 use lib.ListN.{getD}
-use Rattle.refusal.specs.declared.Refusal.{Refusal}
 use Rattle.dispatcher.specs.declared.Place.{Place}
 use Rattle.dispatcher.specs.declared.Dispatcher.{Dispatcher}
 use Rattle.dispatcher.specs.declared.Admission.{Admission}

@@ -3,7 +3,7 @@ use Prim.Native.Nat.{ℕ}
 use mathlib.Core.Path.{_≡_}
 use mathlib.Core.List.{List}
 use lib.ListN.{length}
-use Rattle.dispatcher.specs.Calls.{Call, Event, refused}
+use Rattle.dispatcher.specs.Calls.{Call, refused}
 use Rattle.dispatcher.specs.History.{beginning, Rights}
 use Rattle.dispatcher.specs.Answer.{fresh}
 use Rattle.dispatcher.specs.Played.{eventOf, recordAfter, logOf}

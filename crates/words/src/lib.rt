@@ -17,8 +17,8 @@ ghost use mathlib.Core.Path.{_≡_};
 ghost use mathlib.Core.List.{[], _∷_};
 ghost use lib.Seq.{sets};
 ghost use Rattle.dispatcher.specs.History.{placeCount};
-ghost use Rattle.dispatcher.specs.Answer.{isSought, lowest, fresh, admission, withdrawal, starting, stepping};
-ghost use Rattle.words.specs.Record.{placeWords, lastAt, wordCount, placeIn, placesIn, recordIn, placeOver, tailOver};
+ghost use Rattle.dispatcher.specs.Answer.{isSought, lowest, fresh, admission, withdrawal, stepping};
+ghost use Rattle.words.specs.Record.{lastAt, wordCount, placeIn, placesIn, recordIn, placeOver};
 ghost use Rattle.words.specs.Answer.{freshIn, admittedIn, withdrewIn, steppedIn};
 ghost use Rattle.words.specs.Inside.{startedIn};
 

@@ -1,7 +1,7 @@
 -- `lowest` meets its contract. The loop's invariant: no place before this one is what is sought. The measure is the places
 -- that are left. Assumes nothing.
 use Prim.Native.Nat.{_-_}
-use mathlib.Core.Path.{sym, ap, _∙_}
+use mathlib.Core.Path.{sym, _∙_}
 use native.Mathlib.Omega.{arith}
 use borrow.Author.Needs.{needs}
 use Rattle.dispatcher.specs.History.{placeCount}
