@@ -1,7 +1,11 @@
 -- The functions that the contracts cite: the words after each call, by what the record that they stand for answers. Only the words
 -- of the place that the call changes, and those behind the places, are written; a refused call writes none.
+--     admissionIn ws delay P d, withdrawalIn ws q, steppingIn ws count
+--                             what the record that the words stand for answers
 --     freshIn count           the words of a fresh start
 --     atPlace d q             what stands at a place of a record
+--     bothOver ws q d         the words with place q and what stands behind the places of a record
+--     admittedBy, withdrewBy, steppedBy    the words after a call, by its answer and the record after it
 --     admittedIn a ws         the words after an admission
 --     withdrewIn q w ws       the words after a withdrawal from place q
 --     steppedIn s ws          the words after a step
@@ -19,8 +23,20 @@ use Rattle.dispatcher.specs.declared.Withdrew.{Withdrew}
 use Rattle.dispatcher.specs.declared.Tick.{Tick}
 use Rattle.dispatcher.specs.declared.Tick.the-variants as tick
 use Rattle.dispatcher.specs.declared.Stepped.{Stepped}
-use Rattle.dispatcher.specs.Answer.{emptyPlace, fresh}
-use Rattle.words.specs.Record.{wordsOf, placeOver, tailOver}
+use Rattle.dispatcher.specs.Answer.{emptyPlace, fresh, admission, withdrawal, stepping}
+use Rattle.words.specs.Record.{recordIn, wordsOf, placeOver, tailOver}
+
+-- What the record that the words stand for answers to an admission.
+abbrev pub admissionIn : List ℕ → (delay period duration : ℕ) → Admitted
+admissionIn ws delay period duration = admission (recordIn ws) (record { phase = delay; period = period; duration = duration })
+
+-- What it answers to a withdrawal.
+abbrev pub withdrawalIn : List ℕ → ℕ → Withdrew
+withdrawalIn ws q = withdrawal (recordIn ws) q
+
+-- What it answers to a step.
+abbrev pub steppingIn : List ℕ → ℕ → Stepped
+steppingIn ws count = stepping (recordIn ws) count
 
 -- The words of a fresh start, whatever was there before.
 abbrev pub freshIn : ℕ → List ℕ

@@ -17,9 +17,9 @@ ghost use mathlib.Core.Path.{_≡_};
 ghost use mathlib.Core.List.{[], _∷_};
 ghost use lib.Seq.{sets};
 ghost use Rattle.dispatcher.specs.History.{placeCount};
-ghost use Rattle.dispatcher.specs.Answer.{isSought, lowest, fresh, admission, withdrawal, stepping};
-ghost use Rattle.words.specs.Record.{lastAt, wordCount, placeIn, placesIn, recordIn, placeOver};
-ghost use Rattle.words.specs.Answer.{freshIn, admittedIn, withdrewIn, steppedIn};
+ghost use Rattle.dispatcher.specs.Answer.{isSought, lowest};
+ghost use Rattle.words.specs.Record.{lastAt, wordCount, placeIn, placesIn, placeOver};
+ghost use Rattle.words.specs.Answer.{admissionIn, withdrawalIn, steppingIn, freshIn, admittedIn, withdrewIn, steppedIn};
 ghost use Rattle.words.specs.Inside.{startedIn};
 
 // The words of a place: whether it holds a train, where 0 says no, then its next count, its period and its duration.
@@ -118,8 +118,8 @@ pub fn fresh(words: &mut [u32; LENGTH], count: u32)
 
 // Admits a train, as `Dispatcher::admit` does.
 pub fn admit(words: &mut [u32; LENGTH], delay: u32, period: u32, duration: u32) -> Admission
-    ensures answer { λ r. ⌜ r ≡ admission (recordIn (now (words .entry))) (record { phase = delay; period = period; duration = duration }) .answer ⌝ }
-    ensures memory { λ r. ⌜ now (words .exit) ≡ admittedIn (admission (recordIn (now (words .entry))) (record { phase = delay; period = period; duration = duration })) (now (words .entry)) ⌝ }
+    ensures answer { λ r. ⌜ r ≡ admissionIn (now (words .entry)) delay period duration .answer ⌝ }
+    ensures memory { λ r. ⌜ now (words .exit) ≡ admittedIn (admissionIn (now (words .entry)) delay period duration) (now (words .entry)) ⌝ }
 {
     let train = Train {
         phase: delay,
@@ -155,8 +155,8 @@ pub fn admit(words: &mut [u32; LENGTH], delay: u32, period: u32, duration: u32) 
 
 // Empties a place at once, as `Dispatcher::withdraw` does.
 pub fn withdraw(words: &mut [u32; LENGTH], place: usize) -> Withdrawal
-    ensures answer { λ r. ⌜ r ≡ withdrawal (recordIn (now (words .entry))) place .answer ⌝ }
-    ensures memory { λ r. ⌜ now (words .exit) ≡ withdrewIn place (withdrawal (recordIn (now (words .entry))) place) (now (words .entry)) ⌝ }
+    ensures answer { λ r. ⌜ r ≡ withdrawalIn (now (words .entry)) place .answer ⌝ }
+    ensures memory { λ r. ⌜ now (words .exit) ≡ withdrewIn place (withdrawalIn (now (words .entry)) place) (now (words .entry)) ⌝ }
 {
     if Dispatcher::PLACES <= place {
         return Withdrawal::Refused(Refusal::NoTrainThere);
@@ -188,8 +188,8 @@ fn start(words: &mut [u32; LENGTH], place: usize, count: u32)
 
 // One tick, as `Dispatcher::step` does it. In mid-run no place is looked at.
 pub fn step(words: &mut [u32; LENGTH], count: u32) -> Tick
-    ensures answer { λ r. ⌜ r ≡ stepping (recordIn (now (words .entry))) count .answer ⌝ }
-    ensures memory { λ r. ⌜ now (words .exit) ≡ steppedIn (stepping (recordIn (now (words .entry))) count) (now (words .entry)) ⌝ }
+    ensures answer { λ r. ⌜ r ≡ steppingIn (now (words .entry)) count .answer ⌝ }
+    ensures memory { λ r. ⌜ now (words .exit) ≡ steppedIn (steppingIn (now (words .entry)) count) (now (words .entry)) ⌝ }
 {
     if count != std::num::wrapping_add_u32(words[LAST], 1) {
         return Tick::Refused(Refusal::WrongCount);
