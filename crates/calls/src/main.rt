@@ -112,7 +112,7 @@ fn save_row(bytes: &mut [u8], row: &mut [u32], out: &mut [u8]) -> bool
     if !read_row(bytes, row) {
         return false;
     }
-    let saved = stored::save(row, out);
+    let saved = save::save(row, out);
     match saved {
         Saved::Length(length) => answer(0, length, 0),
         Saved::Refused(refusal) => refuse(refusal),
@@ -128,7 +128,7 @@ fn load_file(file: &mut [u8], row: &mut [u32], bytes: &mut [u8]) -> bool
     if io::read_full(0, file) < file.len() {
         return false;
     }
-    let loaded = stored::load(file, row);
+    let loaded = load::load(file, row);
     match loaded {
         Loaded::Count(count) => answer(0, count, 0),
         Loaded::Refused(refusal) => refuse(refusal),

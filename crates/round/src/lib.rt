@@ -15,10 +15,10 @@ pub fn save_and_load(row: &[u32], back: &mut [u32]) -> Loaded
     ensures memory { λ r. ⌜ now (back .exit) ≡ keptIn r (now (row .entry)) (now (back .entry)) ⌝ }
 {
     let mut out = [0u8; Saved::LONGEST];
-    let saved = stored::save(row, &mut out);
+    let saved = save::save(row, &mut out);
     match saved {
         Saved::Refused(refusal) => Loaded::Refused(refusal),
-        Saved::Length(end) => stored::load(&out[0..end], back),
+        Saved::Length(end) => load::load(&out[0..end], back),
     }
 }
 
@@ -29,9 +29,9 @@ pub fn load_and_save(bytes: &[u8], out: &mut [u8]) -> Saved
     ensures memory { λ r. ⌜ now (out .exit) ≡ againIn r (now (bytes .entry)) (now (out .entry)) ⌝ }
 {
     let mut row = [0u32; Table::LONGEST_ROW];
-    let loaded = stored::load(bytes, &mut row);
+    let loaded = load::load(bytes, &mut row);
     match loaded {
         Loaded::Refused(refusal) => Saved::Refused(refusal),
-        Loaded::Count(count) => stored::save(&row[0..count * Table::NUMBERS], out),
+        Loaded::Count(count) => save::save(&row[0..count * Table::NUMBERS], out),
     }
 }
