@@ -1,12 +1,14 @@
 -- Euclid's method: its two equations, its induction principle, and that it is the relation `Euclid`.
 -- All other laws of this crate rest on these, and never on the text of the definition.
 -- Assumes nothing.
-use Prim.Native.Nat.{ℕ, zero, suc, _%_, _<_, _≤_}
-use mathlib.Core.Path.{_≡_, refl, ap, _∙_}
-use native.Mathlib.Nat.{mod-lt, zero-lt-suc, le-refl, not-suc-le-zero}
+use Prim.Native.Nat.{ℕ, zero, suc, _+_, _%_, _^_, _<_, _≤_}
+use mathlib.Core.Path.{_≡_, refl, sym, ap, _∙_}
+use native.Mathlib.Nat.{mod-lt, zero-lt-suc, le-refl, not-suc-le-zero, add-zero, zero-add}
 use native.Mathlib.Omega.{arith}
+use Rattle.euclid.specs.declared.Common.{Common}
 use Rattle.euclid.specs.Divisor.{Euclid, ends, takes}
 use Rattle.euclid.specs.Answer.{oneMore, euclidWithin, euclid}
+use Rattle.euclid.specs.Inside.{furtherBy}
 
 -- ---- Core laws
 
@@ -33,6 +35,24 @@ euclid-step a zero h = absurd (not-suc-le-zero h)
 euclid-step a (suc b) h =
     let l = mod-lt a (zero-lt-suc b) in
     ap oneMore (within-enough b (a % suc b) (suc b) (a % suc b) (omega arith) (le-refl (a % suc b)))
+
+-- the recursion, where some remainders were taken before
+pub further-zero : (a taken : ℕ) → record { divisor = a; divisions = taken } ≡ furtherBy taken (euclid a 0)
+further-zero a taken =
+    ap (λ (n : ℕ). record { divisor = a; divisions = n }) (sym (add-zero taken)) ∙ ap (furtherBy taken) (sym (euclid-zero a))
+
+pub further-step : (a b taken : ℕ) → 0 < b → furtherBy (taken + 1) (euclid b (a % b)) ≡ furtherBy taken (euclid a b)
+further-step a b taken h =
+    let rest : Common = euclid b (a % b) in
+    ap (λ (n : ℕ). record { divisor = rest .divisor; divisions = n }) (omega arith) ∙ ap (furtherBy taken) (sym (euclid-step a b h))
+
+pub further-fits :
+    (a b taken : ℕ) → 0 < b → taken + euclid a b .divisions < 2 ^ 32 → taken + 1 + euclid b (a % b) .divisions < 2 ^ 32
+further-fits a b taken h fits = omega (arith, ap (λ (c : Common). c .divisions) (euclid-step a b h))
+
+-- and where none was
+pub further-none : (c : Common) → furtherBy 0 c ≡ c
+further-none c = ap (λ (n : ℕ). record { divisor = c .divisor; divisions = n }) (zero-add (c .divisions))
 
 -- Euclid's induction: what holds at (a, 0), and at (a, b) where it holds at (b, a % b), holds everywhere.
 module _ (P : ℕ → ℕ → Type 0) (base : (a : ℕ) → P a 0) (step : (a b : ℕ) → 0 < b → P b (a % b) → P a b) where

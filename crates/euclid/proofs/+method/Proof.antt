@@ -1,17 +1,13 @@
--- `method` meets its contract: at a zero it has ended, and otherwise it is one remainder more than the call of itself.
+-- `method` meets its contract: at a zero it has ended, and otherwise it calls itself after one remainder more.
 -- The measure is the second number, which falls to the remainder. Assumes nothing.
-use Prim.Native.Nat.{ℕ, _+_, _<_, _%_}
-use mathlib.Core.Path.{_≡_, sym, ap, _∙_}
+use Prim.Native.Nat.{ℕ, _+_, _<_}
+use mathlib.Core.Path.{_∙_}
 use native.Mathlib.Nat.{mod-lt, pos-of-ne-zero}
-use native.Mathlib.Numerals.{add-one}
 use native.Mathlib.Omega.{arith}
 use borrow.Author.Needs.{needs}
 use borrow.Fn.Kinds.{In}
 use borrow.Fn.PlainCycle.{Measures, is, falls, and}
-use Rattle.euclid.specs.declared.Common.{Common}
-use Rattle.euclid.specs.Answer.{oneMore}
-use Rattle.euclid.proofs.Euclid.{euclid-zero, euclid-step}
-use Rattle.euclid.proofs.Count.{remainders-word}
+use Rattle.euclid.proofs.Euclid.{further-zero, further-step, further-fits}
 use Rattle.euclid.proofs.method.Reads as method
 use Rattle.euclid.proofs.method.Kinds as method-kinds
 use Rattle.euclid.proofs.+method.Lts-method as method-lts
@@ -29,35 +25,26 @@ method-below t = and 0 method-kinds.ps (falls 0 method-kinds.ps _<_ μ-method t)
 
 method-returns :
     (t : ℕ) → method-lts.Need-returns (method-below t, method.Post) (method-at t) method.Post
-method-returns t c = rw (c .if1 .taken) (sym (euclid-zero _))
+method-returns t c = rw (c .if1 .taken) (further-zero _ _)
 
 method-rem-method :
     (t : ℕ) → method-lts.Need-rem-method (method-below t, method.Post) (method-at t) method.Post
 method-rem-method t c = search needs
 
+method-add-method :
+    (t : ℕ) → method-lts.Need-add-method (method-below t, method.Post) (method-at t) method.Post
+method-add-method t c = omega (arith, further-fits _ _ _ (pos-of-ne-zero (c .if1 .left)) (c .before .pre .1))
+
 method-method-requires :
     (t : ℕ) →
     method-lts.Need-method-requires (method-below t, method.Post) (method-at t) method.Post
 method-method-requires t c κs =
-    (omega (arith, mod-lt (c .before .args .a) (pos-of-ne-zero (c .if1 .left)), c .before .pre .0), tt)
-
-method-add-t6 :
-    (t : ℕ) → method-lts.Need-add-t6 (method-below t, method.Post) (method-at t) method.Post
-method-add-t6 t c =
-    let a : ℕ = c .before .before .before .args .a in
-    let b : ℕ = c .before .before .before .args .b in
-    let l = mod-lt a (pos-of-ne-zero (c .before .before .if1 .left)) in
-    omega (arith, ap (λ (r : Common). r .divisions) (c .before .method .ensures), remainders-word b (a % b) (omega arith))
+    let positive = pos-of-ne-zero (c .if1 .left) in
+    (omega (arith, mod-lt (c .before .args .a) positive, c .before .pre .0), further-fits _ _ _ positive (c .before .pre .1))
 
 method-returns-2 :
     (t : ℕ) → method-lts.Need-returns-2 (method-below t, method.Post) (method-at t) method.Post
-method-returns-2 t c =
-    let rest : Common = c .before .method .result in
-    let counted : record { divisor = rest .divisor; divisions = rest .divisions + 1 } ≡ oneMore rest =
-    ap (λ (n : ℕ). record { divisor = rest .divisor; divisions = n }) (add-one (rest .divisions)) in
-    counted
-    ∙ ap oneMore (c .before .method .ensures)
-    ∙ sym (euclid-step _ _ (pos-of-ne-zero (c .before .before .if1 .left)))
+method-returns-2 t c = c .method .ensures ∙ further-step _ _ _ (pos-of-ne-zero (c .before .if1 .left))
 
 pub +method-spec : {M : Type 1} → statement M
 +method-spec =
@@ -69,6 +56,6 @@ pub +method-spec : {M : Type 1} → statement M
     method.Post
     (method-returns t)
     (method-rem-method t)
+    (method-add-method t)
     (method-method-requires t)
-    (method-add-t6 t)
     (method-returns-2 t)
