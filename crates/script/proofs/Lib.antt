@@ -1,0 +1,2 @@
+-- The laws of script.
+pub mod Ways

@@ -1,0 +1,195 @@
+-- The ways through the code, on plain values: where a text is read at an index, and one law for each return.
+-- Core: digits-at, number-behind and begins-at, which say what the definitions are at an index. The rest follows from these.
+-- Assumes nothing.
+use Prim.Native.Nat.{ℕ, suc, _+_, _-_, _^_, _<_, _≤_}
+use mathlib.Core.Path.{_≡_, refl, sym, ap, _∙_}
+use mathlib.Core.Bool.{Bool, true, false, cond}
+use mathlib.Core.List.{List, [], _∷_}
+use native.Mathlib.Nat.{add-zero}
+use native.Mathlib.Numerals.{add-one}
+use native.Mathlib.Omega.{arith}
+use lib.Dec.{ltb, leb, eqb}
+use lib.ListN.{length, getD, take, drop, drop-of-length-le, List·getD-eq-default}
+use lib.Seq.{drop-cons, getD-drop}
+use borrow.Author.Tests.{lt-ltb, le-ltb, eq-eqb, ne-eqb, leb-true, ltb-false}
+use Rattle.script.specs.declared.Call.the-variants.{Bad}
+use Rattle.script.specs.declared.Number.{Number}
+use Rattle.script.specs.declared.Single.the-variants as singles
+use Rattle.script.specs.Says.{space, return, freshWord, admitWord, withdrawWord, stepWord, longest}
+use Rattle.script.specs.Answer.{isDigit, longer, Found, nothing, found, digitsFrom, numberIn, foundAt, singleOf, singleIn, freshOf, delayOf, withdrawOf, stepOf, beginsWith, spelt, textLength, callIn}
+
+-- ---- Digits
+
+module _ (b : ℕ) where
+  pub digit-below : b < 48 → false ≡ isDigit b
+  unfolding isDigit
+  digit-below h = simp (lt-ltb b 48 h)
+
+  pub digit-from : 48 ≤ b → leb b 57 ≡ isDigit b
+  unfolding isDigit
+  digit-from h = simp (le-ltb b 48 h)
+
+  pub is-from : isDigit b ≡ true → 48 ≤ b
+  unfolding isDigit
+  is-from h = go (ltb b 48) refl h
+    where
+      go : (t : Bool) → ltb b 48 ≡ t → cond t false (leb b 57) ≡ true → 48 ≤ b
+      go true e g = absurd (let z : _≡_ {A = ℕ} 0 1 = cc in omega arith)
+      go false e g = ltb-false b 48 e
+
+module _ (v : ℕ) (text : List ℕ) (at : ℕ) where
+  pub digits-end : length text ≤ at → found v (drop at text) ≡ digitsFrom v (drop at text)
+  unfolding digitsFrom
+  digits-end h = rw (drop-of-length-le text h)
+
+  digits-at :
+      at < length text →
+      digitsFrom v (drop at text)
+      ≡ cond (isDigit (getD text at 0))
+      (cond (ltb (longer v (getD text at 0)) (2 ^ 32)) (digitsFrom (longer v (getD text at 0)) (drop (at + 1) text)) nothing)
+      (found v (drop at text))
+  unfolding digitsFrom
+  digits-at h = rw (add-one, drop-cons text at 0 h)
+
+  module _ (within : at < length text) where
+    pub digits-stop : isDigit (getD text at 0) ≡ false → found v (drop at text) ≡ digitsFrom v (drop at text)
+    digits-stop h = rw (digits-at within, h)
+
+    module _ (digit : isDigit (getD text at 0) ≡ true) (w : ℕ) (w-is : w ≡ longer v (getD text at 0)) where
+      pub digits-on : w < 2 ^ 32 → digitsFrom w (drop (at + 1) text) ≡ digitsFrom v (drop at text)
+      digits-on h = rw (digits-at within, digit, ← w-is, lt-ltb w (2 ^ 32) h)
+
+      pub digits-over : 2 ^ 32 ≤ w → nothing ≡ digitsFrom v (drop at text)
+      digits-over h = rw (digits-at within, digit, ← w-is, le-ltb w (2 ^ 32) h)
+
+-- ---- A number
+
+module _ (text : List ℕ) (at : ℕ) where
+  pub number-end : length text ≤ at → nothing ≡ numberIn (drop at text)
+  unfolding numberIn
+  number-end h = rw (drop-of-length-le text h)
+
+  module _ (within : at < length text) where
+    number-behind :
+        numberIn (drop at text)
+        ≡ cond (eqb (getD text at 0) space)
+        (cond (isDigit (getD text (at + 1) 0)) (digitsFrom 0 (drop (at + 1) text)) nothing)
+        nothing
+    unfolding numberIn
+    number-behind = rw (add-one at, drop-cons text at 0 within, getD-drop (suc at) text 0 0, add-zero)
+
+    pub number-no-space : (getD text at 0 ≡ space → ⊥) → nothing ≡ numberIn (drop at text)
+    number-no-space h = rw (number-behind, ne-eqb (getD text at 0) space h)
+
+    module _ (spaced : getD text at 0 ≡ space) where
+      pub number-space-end : length text ≤ at + 1 → nothing ≡ numberIn (drop at text)
+      unfolding isDigit
+      number-space-end h = rw (number-behind, eq-eqb (getD text at 0) space spaced, List·getD-eq-default text 0 h)
+
+      pub number-no-digit : isDigit (getD text (at + 1) 0) ≡ false → nothing ≡ numberIn (drop at text)
+      number-no-digit h = rw (number-behind, eq-eqb (getD text at 0) space spaced, h)
+
+      pub number-digits : isDigit (getD text (at + 1) 0) ≡ true → digitsFrom 0 (drop (at + 1) text) ≡ numberIn (drop at text)
+      number-digits h = rw (number-behind, eq-eqb (getD text at 0) space spaced, h)
+
+-- ---- A word
+
+module _ (word text : List ℕ) (i : ℕ) where
+  pub begins-all : length word ≤ i → true ≡ beginsWith (drop i word) (drop i text)
+  unfolding beginsWith
+  begins-all h = rw (drop-of-length-le word h)
+
+  module _ (more : i < length word) where
+    pub begins-short : length text ≤ i → false ≡ beginsWith (drop i word) (drop i text)
+    unfolding beginsWith
+    begins-short h = rw (drop-of-length-le text h, drop-cons word i 0 more)
+
+    module _ (within : i < length text) where
+      begins-at :
+          beginsWith (drop i word) (drop i text)
+          ≡ cond (eqb (getD text i 0) (getD word i 0)) (beginsWith (drop (i + 1) word) (drop (i + 1) text)) false
+      unfolding beginsWith
+      begins-at = rw (add-one, drop-cons word i 0 more, drop-cons text i 0 within)
+
+      pub begins-other : (getD text i 0 ≡ getD word i 0 → ⊥) → false ≡ beginsWith (drop i word) (drop i text)
+      begins-other h = rw (begins-at, ne-eqb (getD text i 0) (getD word i 0) h)
+
+      pub begins-on :
+          getD text i 0 ≡ getD word i 0 →
+          beginsWith (drop (i + 1) word) (drop (i + 1) text) ≡ beginsWith (drop i word) (drop i text)
+      begins-on h = rw (begins-at, eq-eqb (getD text i 0) (getD word i 0) h)
+
+-- ---- The end of a line
+
+module _ (line : List ℕ) where
+  pub length-empty : length line ≡ 0 → 0 ≡ textLength line
+  unfolding textLength
+  length-empty h = go line h
+    where
+      go : (l : List ℕ) → length l ≡ 0 → 0 ≡ cond (eqb (getD l (length l - 1) 0) return) (length l - 1) (length l)
+      go [] h = refl
+      go (b ∷ bs) h = absurd (omega arith)
+
+  pub length-returned : getD line (length line - 1) 0 ≡ return → length line - 1 ≡ textLength line
+  unfolding textLength
+  length-returned h = rw (eq-eqb (getD line (length line - 1) 0) return h)
+
+  pub length-plain : (getD line (length line - 1) 0 ≡ return → ⊥) → length line ≡ textLength line
+  unfolding textLength
+  length-plain h = rw (ne-eqb (getD line (length line - 1) 0) return h)
+
+-- ---- A number and what follows it
+
+-- what a call answered is what it was told to be
+pub told : (text : List ℕ) (r v : Number) (f : Found) → foundAt text r ≡ f → r ≡ v → foundAt text v ≡ f
+told text r v f e g = ap (foundAt text) (sym g) ∙ e
+
+pub single-missing : (l : List ℕ) → nothing ≡ numberIn l → singles.Missing ≡ singleIn l
+unfolding singleOf
+single-missing l e = ap singleOf e
+
+module _ (l text : List ℕ) (n end : ℕ) (e : found n (drop end text) ≡ numberIn l) where
+  pub single-followed : end < length text → singles.Missing ≡ singleIn l
+  unfolding singleOf
+  single-followed h = ap (λ (rest : List ℕ). singleOf (found n rest)) (sym (drop-cons text end 0 h)) ∙ ap singleOf e
+
+  pub single-last : length text ≤ end → singles.Found n ≡ singleIn l
+  unfolding singleOf
+  single-last h = ap (λ (rest : List ℕ). singleOf (found n rest)) (sym (drop-of-length-le text h)) ∙ ap singleOf e
+
+-- ---- A call by its word
+
+module _ (text : List ℕ) where
+  pub spelt-step : beginsWith stepWord text ≡ true → stepOf (singleIn (drop 4 text)) ≡ spelt text
+  unfolding spelt
+  spelt-step h = rw h
+
+  module _ (no-step : beginsWith stepWord text ≡ false) where
+    pub spelt-admit : beginsWith admitWord text ≡ true → delayOf (numberIn (drop 5 text)) ≡ spelt text
+    unfolding spelt
+    spelt-admit h = rw (no-step, h)
+
+    module _ (no-admit : beginsWith admitWord text ≡ false) where
+      pub spelt-withdraw : beginsWith withdrawWord text ≡ true → withdrawOf (singleIn (drop 8 text)) ≡ spelt text
+      unfolding spelt
+      spelt-withdraw h = rw (no-step, no-admit, h)
+
+      module _ (no-withdraw : beginsWith withdrawWord text ≡ false) where
+        pub spelt-fresh : beginsWith freshWord text ≡ true → freshOf (singleIn (drop 5 text)) ≡ spelt text
+        unfolding spelt
+        spelt-fresh h = rw (no-step, no-admit, no-withdraw, h)
+
+        pub spelt-none : beginsWith freshWord text ≡ false → Bad ≡ spelt text
+        unfolding spelt
+        spelt-none h = rw (no-step, no-admit, no-withdraw, h)
+
+-- ---- A line
+
+module _ (line : List ℕ) (n : ℕ) (n-is : n ≡ textLength line) where
+  pub line-too-long : longest < n → Bad ≡ callIn line
+  unfolding callIn
+  line-too-long h = rw (← n-is, lt-ltb longest n h)
+
+  pub line-read : n ≤ longest → spelt (take n line) ≡ callIn line
+  unfolding callIn
+  line-read h = rw (← n-is, le-ltb longest n h)

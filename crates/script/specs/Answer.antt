@@ -1,0 +1,116 @@
+-- The functions that the contracts cite. The words are in Says.
+--     isDigit b              whether a byte is a digit
+--     longer v b             the number v with one digit more
+--     Found, nothing, found n rest   a number that was looked for: its value, and the text behind it
+--     digitsFrom v text      the number whose digits go on there, after those that stand for v
+--     numberIn text          the number that a space and digits say at the front of a text
+--     singleOf, singleIn     that number, if nothing follows it
+--     freshOf, withdrawOf, stepOf, delayOf, periodOf, durationOf   the call with these numbers
+--     beginsWith word text   whether a text begins with a word
+--     spelt text             what a text says
+--     textLength line        the bytes of a line without the CR at its end
+--     callIn line            what `read` answers
+use Prim.Native.Nat.{ℕ, _+_, _*_, _-_, _^_}
+use mathlib.Core.Bool.{Bool, true, false, cond}
+use mathlib.Core.List.{List, [], _∷_}
+use lib.Dec.{ltb, leb, eqb}
+use lib.ListN.{length, getD, take, drop}
+use Rattle.script.specs.declared.Call.{Call}
+use Rattle.script.specs.declared.Call.the-variants.{Bad, Fresh, Admit, Withdraw, Step}
+use Rattle.script.specs.declared.Number as declared
+use Rattle.script.specs.declared.Number.the-variants as numbers
+use Rattle.script.specs.declared.Single.{Single}
+use Rattle.script.specs.declared.Single.the-variants as singles
+use Rattle.script.specs.Says.{space, return, freshWord, admitWord, withdrawWord, stepWord, longest}
+
+-- Whether a byte is a digit.
+unfoldable pub isDigit : ℕ → Bool
+isDigit b = cond (ltb b 48) false (leb b 57)
+
+-- A number with one digit more at its end.
+abbrev pub longer : ℕ → ℕ → ℕ
+longer v b = v * 10 + (b - 48)
+
+-- A number that was looked for at the front of a text: its value, and what stands behind it.
+pub data Found : Type 0 where
+  nothing : Found
+  found : ℕ → List ℕ → Found
+
+-- The digits go on as far as they go; a number of 2^32 or more is none.
+unfoldable pub digitsFrom : ℕ → List ℕ → Found
+digitsFrom v [] = found v []
+digitsFrom v (b ∷ bs) =
+    cond (isDigit b) (cond (ltb (longer v b) (2 ^ 32)) (digitsFrom (longer v b) bs) nothing) (found v (b ∷ bs))
+
+-- A space, and at least one digit.
+unfoldable pub numberIn : List ℕ → Found
+numberIn [] = nothing
+numberIn (b ∷ bs) = cond (eqb b space) (cond (isDigit (getD bs 0 0)) (digitsFrom 0 bs) nothing) nothing
+
+-- The same where the code has found a number, by the index behind it.
+abbrev pub foundAt : List ℕ → declared.Number → Found
+foundAt text numbers.Missing = nothing
+foundAt text (numbers.Found n end) = found n (drop end text)
+
+-- A number that nothing follows.
+unfoldable pub singleOf : Found → Single
+singleOf nothing = singles.Missing
+singleOf (found n []) = singles.Found n
+singleOf (found n (b ∷ bs)) = singles.Missing
+
+-- The only number of a text.
+abbrev pub singleIn : List ℕ → Single
+singleIn text = singleOf (numberIn text)
+
+-- The call `fresh` with its number.
+abbrev pub freshOf : Single → Call
+freshOf singles.Missing = Bad
+freshOf (singles.Found count) = Fresh count
+
+-- The call `withdraw` with its number.
+abbrev pub withdrawOf : Single → Call
+withdrawOf singles.Missing = Bad
+withdrawOf (singles.Found place) = Withdraw place
+
+-- The call `step` with its number.
+abbrev pub stepOf : Single → Call
+stepOf singles.Missing = Bad
+stepOf (singles.Found count) = Step count
+
+-- The call `admit` with its last number.
+abbrev pub durationOf : (delay period : ℕ) → Single → Call
+durationOf delay period singles.Missing = Bad
+durationOf delay period (singles.Found duration) = Admit delay period duration
+
+-- The call `admit` with its second number, and what follows it.
+abbrev pub periodOf : (delay : ℕ) → Found → Call
+periodOf delay nothing = Bad
+periodOf delay (found period rest) = durationOf delay period (singleIn rest)
+
+-- The call `admit` with its first number, and what follows it.
+abbrev pub delayOf : Found → Call
+delayOf nothing = Bad
+delayOf (found delay rest) = periodOf delay (numberIn rest)
+
+-- Whether a text begins with a word.
+unfoldable pub beginsWith : (word text : List ℕ) → Bool
+beginsWith [] text = true
+beginsWith (w ∷ ws) [] = false
+beginsWith (w ∷ ws) (t ∷ ts) = cond (eqb t w) (beginsWith ws ts) false
+
+-- What a text says, by its first word.
+unfoldable pub spelt : List ℕ → Call
+spelt text =
+    cond (beginsWith stepWord text) (stepOf (singleIn (drop 4 text)))
+    (cond (beginsWith admitWord text) (delayOf (numberIn (drop 5 text)))
+    (cond (beginsWith withdrawWord text) (withdrawOf (singleIn (drop 8 text)))
+    (cond (beginsWith freshWord text) (freshOf (singleIn (drop 5 text)))
+    Bad)))
+
+-- The bytes of a line without the CR at its end, if there is one.
+unfoldable pub textLength : List ℕ → ℕ
+textLength line = cond (eqb (getD line (length line - 1) 0) return) (length line - 1) (length line)
+
+-- What `read` answers: a text that is too long says nothing.
+unfoldable pub callIn : List ℕ → Call
+callIn line = cond (ltb longest (textLength line)) Bad (spelt (take (textLength line) line))

@@ -1,0 +1,220 @@
+// Reads a line that says a call of a dispatcher: `fresh C`, `admit DELAY PERIOD DURATION`, `withdraw PLACE` or `step C`.
+// `read` has no `requires`: of a line that says no call it answers `Bad`.
+ghost use mathlib.Core.Path.{_≡_};
+ghost use Prim.Native.Nat.{_≤_, _<_, _^_};
+ghost use lib.ListN.{length, drop};
+ghost use Rattle.script.specs.Says.{longest};
+ghost use Rattle.script.specs.Answer.{isDigit, digitsFrom, numberIn, foundAt, singleIn, freshOf, delayOf, withdrawOf, stepOf, beginsWith, spelt, textLength, callIn};
+ghost use Rattle.script.specs.Answer.{longer as Answer·longer};
+
+// What a line says.
+pub enum Call {
+    // No call.
+    Bad,
+    Fresh(u32),
+    Admit(u32, u32, u32),
+    Withdraw(u32),
+    Step(u32),
+}
+
+impl Call {
+    // The bytes of the longest line that may say a call, without its line end.
+    pub const LONGEST: usize = 80;
+}
+
+// No number is so great: 2^32.
+const LIMIT: u64 = 4_294_967_296;
+
+// A number that was looked for.
+enum Number {
+    // It is not there.
+    Missing,
+    // Its value, and the index behind its last digit.
+    Found(u32, usize),
+}
+
+// One number and nothing behind it.
+enum Single {
+    Missing,
+    Found(u32),
+}
+
+// Whether a byte is one of the digits 0 to 9.
+fn is_digit(byte: u8) -> bool
+    ensures { λ r. ⌜ r ≡ isDigit byte ⌝ }
+{
+    if byte < b'0' {
+        return false;
+    }
+    byte <= b'9'
+}
+
+// The number before, with one more digit at its end.
+fn longer(value: u64, digit: u8) -> u64
+    requires { ⌜ (value < 2 ^ 32) × (48 ≤ digit) ⌝ }
+    ensures { λ r. ⌜ r ≡ Answer·longer value digit ⌝ }
+{
+    value * 10 + (digit - b'0') as u64
+}
+
+// The number whose digits begin there, if it is below 2^32. No digit counts as 0, so the caller looks at the first.
+fn digits(text: &[u8], at: usize) -> Number
+    ensures { λ r. ⌜ foundAt (now (text .entry)) r ≡ digitsFrom 0 (drop at (now (text .entry))) ⌝ }
+{
+    let mut value = 0;
+    let mut next = at;
+    while next < text.len() {
+        let byte = text[next];
+        if !is_digit(byte) {
+            return Number::Found(value as u32, next);
+        }
+        value = longer(value, byte);
+        if value >= LIMIT {
+            return Number::Missing;
+        }
+        next += 1;
+    }
+    Number::Found(value as u32, next)
+}
+
+// The number that a space and its digits say there.
+fn number_at(text: &[u8], at: usize) -> Number
+    ensures { λ r. ⌜ foundAt (now (text .entry)) r ≡ numberIn (drop at (now (text .entry))) ⌝ }
+{
+    if at >= text.len() {
+        return Number::Missing;
+    }
+    if text[at] != b' ' {
+        return Number::Missing;
+    }
+    let first = at + 1;
+    if first >= text.len() {
+        return Number::Missing;
+    }
+    if !is_digit(text[first]) {
+        return Number::Missing;
+    }
+    digits(text, first)
+}
+
+// The number that is said there, if nothing follows it.
+fn single_at(text: &[u8], at: usize) -> Single
+    ensures { λ r. ⌜ r ≡ singleIn (drop at (now (text .entry))) ⌝ }
+{
+    let Number::Found(value, end) = number_at(text, at) else {
+        return Single::Missing;
+    };
+    if end < text.len() {
+        return Single::Missing;
+    }
+    Single::Found(value)
+}
+
+// The call `fresh` with the number behind its word.
+fn fresh(number: Single) -> Call
+    ensures { λ r. ⌜ r ≡ freshOf number ⌝ }
+{
+    match number {
+        Single::Missing => Call::Bad,
+        Single::Found(count) => Call::Fresh(count),
+    }
+}
+
+// The call `admit` with the three numbers behind its word.
+fn admit(text: &[u8]) -> Call
+    ensures { λ r. ⌜ r ≡ delayOf (numberIn (drop 5 (now (text .entry)))) ⌝ }
+{
+    let Number::Found(delay, second) = number_at(text, 5) else {
+        return Call::Bad;
+    };
+    let Number::Found(period, third) = number_at(text, second) else {
+        return Call::Bad;
+    };
+    let Single::Found(duration) = single_at(text, third) else {
+        return Call::Bad;
+    };
+    Call::Admit(delay, period, duration)
+}
+
+// The call `withdraw` with the number behind its word.
+fn withdraw(number: Single) -> Call
+    ensures { λ r. ⌜ r ≡ withdrawOf number ⌝ }
+{
+    match number {
+        Single::Missing => Call::Bad,
+        Single::Found(place) => Call::Withdraw(place),
+    }
+}
+
+// The call `step` with the number behind its word.
+fn step(number: Single) -> Call
+    ensures { λ r. ⌜ r ≡ stepOf number ⌝ }
+{
+    match number {
+        Single::Missing => Call::Bad,
+        Single::Found(count) => Call::Step(count),
+    }
+}
+
+// Whether a text begins with a word.
+fn begins(text: &[u8], word: &[u8]) -> bool
+    ensures { λ r. ⌜ r ≡ beginsWith (now (word .entry)) (now (text .entry)) ⌝ }
+{
+    let mut letter = 0;
+    while letter < word.len() {
+        if letter >= text.len() {
+            return false;
+        }
+        if text[letter] != word[letter] {
+            return false;
+        }
+        letter += 1;
+    }
+    true
+}
+
+// The call that a text says by its first word.
+fn call_in(text: &[u8]) -> Call
+    ensures { λ r. ⌜ r ≡ spelt (now (text .entry)) ⌝ }
+{
+    if begins(text, b"step") {
+        return step(single_at(text, 4));
+    }
+    if begins(text, b"admit") {
+        return admit(text);
+    }
+    if begins(text, b"withdraw") {
+        return withdraw(single_at(text, 8));
+    }
+    if begins(text, b"fresh") {
+        return fresh(single_at(text, 5));
+    }
+    Call::Bad
+}
+
+// How many bytes a line has without the CR at its end, if there is one.
+fn text_length(line: &[u8]) -> usize
+    ensures { λ r. ⌜ (r ≡ textLength (now (line .entry))) × (r ≤ length (now (line .entry))) ⌝ }
+{
+    let length = line.len();
+    if length == 0 {
+        return 0;
+    }
+    let last = length - 1;
+    if line[last] == b'\r' {
+        return last;
+    }
+    length
+}
+
+// What a line says, which is handed over without its newline. A CR at its end is dropped.
+pub fn read(line: &[u8]) -> Call
+    ensures answer { λ r. ⌜ r ≡ callIn (now (line .entry)) ⌝ }
+    ensures constants { λ _. do ⌜ (← ⟦Call::LONGEST⟧ .entry) ≡ longest ⌝ }
+{
+    let length = text_length(line);
+    if length > Call::LONGEST {
+        return Call::Bad;
+    }
+    call_in(&line[..length])
+}
