@@ -11,12 +11,13 @@ use native.Mathlib.Omega.{arith}
 use lib.Dec.{ltb, leb, eqb}
 use lib.ListN.{length, getD, take, drop, drop-of-length-le, List·getD-eq-default}
 use lib.Seq.{drop-cons, getD-drop}
-use borrow.Author.Tests.{lt-ltb, le-ltb, eq-eqb, ne-eqb, leb-true, ltb-false}
+use borrow.Author.Tests.{lt-ltb, le-ltb, eq-eqb, ne-eqb, ltb-false}
 use Rattle.script.specs.declared.Call.the-variants.{Bad}
 use Rattle.script.specs.declared.Number.{Number}
 use Rattle.script.specs.declared.Single.the-variants as singles
 use Rattle.script.specs.Says.{space, return, freshWord, admitWord, withdrawWord, stepWord, longest}
-use Rattle.script.specs.Answer.{isDigit, longer, Found, nothing, found, digitsFrom, numberIn, foundAt, singleOf, singleIn, freshOf, delayOf, withdrawOf, stepOf, beginsWith, spelt, textLength, callIn}
+use Rattle.script.specs.Answer.{isDigit, longer, Found, nothing, found, digitsFrom, numberIn, foundAt, singleOf, singleIn, freshOf}
+use Rattle.script.specs.Answer.{delayOf, withdrawOf, stepOf, beginsWith, spelt, textLength, callIn}
 
 -- ---- Digits
 

@@ -1,4 +1,4 @@
--- The functions that the contracts cite. The words are in Says.
+-- The functions that the contracts cite. Promises says what they have to do with the words of Says.
 --     isDigit b              whether a byte is a digit
 --     longer v b             the number v with one digit more
 --     Found, nothing, found n rest   a number that was looked for: its value, and the text behind it

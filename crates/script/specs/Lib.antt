@@ -1,3 +1,4 @@
--- What script promises. Read Says (the words), then Answer (the functions).
+-- What script promises. Read Says (the words), Answer (the functions), then Promises (what is proved of them).
 pub mod Says
 pub mod Answer
+pub mod Promises

@@ -71,7 +71,7 @@ pub data Spells : List ℕ → Call → Type 0 where
   fresh : {c : ℕ} {ds : List ℕ} → Number c ds → Spells (freshWord ++ space ∷ ds) (Fresh c)
   admit :
       {delay period duration : ℕ} {ds es fs : List ℕ} → Number delay ds → Number period es → Number duration fs →
-      Spells (admitWord ++ space ∷ ds ++ space ∷ es ++ space ∷ fs) (Admit delay period duration)
+      Spells (admitWord ++ (space ∷ ds ++ (space ∷ es ++ space ∷ fs))) (Admit delay period duration)
   withdraw : {place : ℕ} {ds : List ℕ} → Number place ds → Spells (withdrawWord ++ space ∷ ds) (Withdraw place)
   step : {c : ℕ} {ds : List ℕ} → Number c ds → Spells (stepWord ++ space ∷ ds) (Step c)
 
