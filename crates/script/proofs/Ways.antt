@@ -16,8 +16,9 @@ use Rattle.script.specs.declared.Call.the-variants.{Bad}
 use Rattle.script.specs.declared.Number.{Number}
 use Rattle.script.specs.declared.Single.the-variants as singles
 use Rattle.script.specs.Says.{space, return, freshWord, admitWord, withdrawWord, stepWord, longest}
-use Rattle.script.specs.Answer.{isDigit, longer, Found, nothing, found, digitsFrom, numberIn, foundAt, singleOf, singleIn, freshOf}
+use Rattle.script.specs.Answer.{isDigit, longer, Found, nothing, found, digitsFrom, numberIn, singleOf, singleIn, freshOf}
 use Rattle.script.specs.Answer.{delayOf, withdrawOf, stepOf, beginsWith, spelt, textLength, callIn}
+use Rattle.script.specs.Inside.{foundAt}
 
 -- ---- Digits
 

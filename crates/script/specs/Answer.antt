@@ -1,7 +1,7 @@
 -- The functions that the contracts cite. Promises says what they have to do with the words of Says.
 --     isDigit b              whether a byte is a digit
 --     longer v b             the number v with one digit more
---     Found, nothing, found n rest   a number that was looked for: its value, and the text behind it
+--     Found                  a number that was looked for: its value, and the text behind it, or nothing
 --     digitsFrom v text      the number whose digits go on there, after those that stand for v
 --     numberIn text          the number that a space and digits say at the front of a text
 --     singleOf, singleIn     that number, if nothing follows it
@@ -17,8 +17,6 @@ use lib.Dec.{ltb, leb, eqb}
 use lib.ListN.{length, getD, take, drop}
 use Rattle.script.specs.declared.Call.{Call}
 use Rattle.script.specs.declared.Call.the-variants.{Bad, Fresh, Admit, Withdraw, Step}
-use Rattle.script.specs.declared.Number as declared
-use Rattle.script.specs.declared.Number.the-variants as numbers
 use Rattle.script.specs.declared.Single.{Single}
 use Rattle.script.specs.declared.Single.the-variants as singles
 use Rattle.script.specs.Says.{space, return, freshWord, admitWord, withdrawWord, stepWord, longest}
@@ -46,11 +44,6 @@ digitsFrom v (b ∷ bs) =
 unfoldable pub numberIn : List ℕ → Found
 numberIn [] = nothing
 numberIn (b ∷ bs) = cond (eqb b space) (cond (isDigit (getD bs 0 0)) (digitsFrom 0 bs) nothing) nothing
-
--- The same where the code has found a number, by the index behind it.
-abbrev pub foundAt : List ℕ → declared.Number → Found
-foundAt text numbers.Missing = nothing
-foundAt text (numbers.Found n end) = found n (drop end text)
 
 -- A number that nothing follows.
 unfoldable pub singleOf : Found → Single

@@ -2,3 +2,4 @@
 pub mod Says
 pub mod Answer
 pub mod Promises
+pub mod Inside

@@ -26,7 +26,7 @@ pub data Digits : List ℕ → Type 0 where
   none : Digits []
   more : {d : ℕ} {ds : List ℕ} → Digit d → Digits ds → Digits (d ∷ ds)
 
--- Each further digit counts ten times what stands before it.
+-- With each further digit, what stands before it counts ten times as much.
 unfoldable pub valueFrom : ℕ → List ℕ → ℕ
 valueFrom v [] = v
 valueFrom v (d ∷ ds) = valueFrom (v * 10 + (d - 48)) ds

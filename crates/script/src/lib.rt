@@ -4,9 +4,10 @@ ghost use mathlib.Core.Path.{_≡_};
 ghost use Prim.Native.Nat.{_≤_, _<_, _^_};
 ghost use lib.ListN.{length, drop};
 ghost use Rattle.script.specs.Says.{longest};
-ghost use Rattle.script.specs.Answer.{isDigit, digitsFrom, numberIn, foundAt, singleIn, freshOf, delayOf, withdrawOf, stepOf};
+ghost use Rattle.script.specs.Answer.{isDigit, digitsFrom, numberIn, singleIn, freshOf, delayOf, withdrawOf, stepOf};
 ghost use Rattle.script.specs.Answer.{beginsWith, spelt, textLength, callIn};
 ghost use Rattle.script.specs.Answer.{longer as Answer·longer};
+ghost use Rattle.script.specs.Inside.{foundAt};
 
 // What a line says.
 pub enum Call {

@@ -30,7 +30,8 @@ cast-t11 c = search needs
 
 returns : tie.Need-returns Inv-loop μ-loop
 returns c = let turn = c .before .before .before in
-    digits-stop _ _ _ (turn .loop-test .taken) (sym (c .before .is-digit .ensures) ∙ not-true _ (c .if1 .taken)) ∙ turn .before .loop .inv .1
+    digits-stop _ _ _ (turn .loop-test .taken) (sym (c .before .is-digit .ensures) ∙ not-true _ (c .if1 .taken))
+    ∙ turn .before .loop .inv .1
 
 longer-requires : tie.Need-longer-requires Inv-loop μ-loop
 longer-requires c κs = let turn = c .before .before .before in
