@@ -1,0 +1,8 @@
+-- The laws of bench. Promises gathers what specs/Promises.antt states.
+--     Naming              which train or place a refusal names
+--     Fitting             every answer has room in the number, and is told by it
+--     Handing             what the functions hand back and leave
+pub mod Naming
+pub mod Fitting
+pub mod Handing
+pub mod Promises

@@ -1,0 +1,111 @@
+-- The number that each function hands back, which holds three, and the figures of a verdict in the caller's memory.
+--     Parts                   a refusal's number, a kind and a value
+--     kindUnit, numberUnit    what one kind counts in the number that is handed back, and one number of a refusal
+--     code p                  the number that holds the three
+--     parts answer            the three that a number holds, as the header's functions take it apart
+--     Fits p                  each of the three has room in the number
+--     plain kind value        a call that was not refused
+--     refusedParts r          a call that was refused: the paper's number, and its train or place
+--     verdictParts v, writtenParts w, savedParts s, loadedParts l, admissionParts a, withdrawalParts w, tickParts t
+--                             the three of each answer
+--     verdictCode v, writtenCode w, savedCode s, loadedCode l, admissionCode a, withdrawalCode w, tickCode t
+--                             the number of each answer
+--     figureCount             how many figures there are
+--     figuresIn v before      the figures after a verdict
+use Prim.Native.Nat.{ℕ, _+_, _*_, _/_, _%_, _^_, _<_}
+use mathlib.Core.List.{List, [], _∷_}
+use lib.Seq.{sets}
+use Rattle.refusal.specs.declared.Refusal.{Refusal}
+use Rattle.refusal.specs.Paper.{paper}
+use Rattle.judge.specs.declared.Verdict.{Verdict}
+use Rattle.judge.specs.declared.Verdict.the-variants as verdicts
+use Rattle.stored.specs.declared.Saved.{Saved}
+use Rattle.stored.specs.declared.Saved.the-variants as saves
+use Rattle.stored.specs.declared.Loaded.{Loaded}
+use Rattle.stored.specs.declared.Loaded.the-variants as loads
+use Rattle.line.specs.declared.Written.{Written}
+use Rattle.line.specs.declared.Written.the-variants as writes
+
+-- What an answer holds: the number of the refusal, which is 0 where there is none, a kind, and a place, a length or a count.
+pub record Parts : Type 0 where
+  pub number : ℕ
+  pub kind : ℕ
+  pub value : ℕ
+
+-- A kind stands above the 32 bits of the value.
+abbrev pub kindUnit : ℕ
+kindUnit = 2 ^ 32
+
+-- A refusal's number stands above the 8 bits of the kind.
+abbrev pub numberUnit : ℕ
+numberUnit = 2 ^ 40
+
+-- The three as one number.
+abbrev pub code : Parts → ℕ
+code p = p .number * numberUnit + p .kind * kindUnit + p .value
+
+-- What urzabelki_refusal, urzabelki_kind and urzabelki_value of the header take out of it.
+abbrev pub parts : ℕ → Parts
+parts answer = record { number = answer / numberUnit; kind = answer / kindUnit % 256; value = answer % kindUnit }
+
+-- A number of 24 bits, a kind of 8 and a value of 32.
+pub record Fits (p : Parts) : Type 0 where
+  pub number : p .number < 2 ^ 24
+  pub kind : p .kind < 256
+  pub value : p .value < 2 ^ 32
+
+-- A call that was not refused.
+abbrev pub plain : (kind value : ℕ) → Parts
+plain kind value = record { number = 0; kind = kind; value = value }
+
+-- A call that was refused.
+abbrev pub refusedParts : Refusal → Parts
+refusedParts r = record { number = paper r .number; kind = 0; value = paper r .place }
+
+-- Accepted is kind 0, a collision kind 1.
+abbrev pub verdictParts : Verdict → Parts
+verdictParts (verdicts.Accepted figures) = plain 0 0
+verdictParts (verdicts.Collide meeting figures) = plain 1 0
+verdictParts (verdicts.Refused r) = refusedParts r
+
+-- The length of the line.
+abbrev pub writtenParts : Written → Parts
+writtenParts (writes.Length n) = plain 0 n
+writtenParts (writes.Refused r) = refusedParts r
+
+-- The length of the stored table.
+abbrev pub savedParts : Saved → Parts
+savedParts (saves.Length n) = plain 0 n
+savedParts (saves.Refused r) = refusedParts r
+
+-- The count of trains.
+abbrev pub loadedParts : Loaded → Parts
+loadedParts (loads.Count k) = plain 0 k
+loadedParts (loads.Refused r) = refusedParts r
+
+-- The number of a verdict.
+abbrev pub verdictCode : Verdict → ℕ
+verdictCode v = code (verdictParts v)
+
+-- The number of a line that was written.
+abbrev pub writtenCode : Written → ℕ
+writtenCode w = code (writtenParts w)
+
+-- The number of a table that was saved.
+abbrev pub savedCode : Saved → ℕ
+savedCode s = code (savedParts s)
+
+-- The number of a table that was loaded.
+abbrev pub loadedCode : Loaded → ℕ
+loadedCode l = code (loadedParts l)
+
+-- L, the division count, the two trains of a collision and its tick.
+abbrev pub figureCount : ℕ
+figureCount = 5
+
+-- After an accepted table L and the division count are written, after a collision all five, after a refusal none.
+abbrev pub figuresIn : Verdict → (before : List ℕ) → List ℕ
+figuresIn (verdicts.Accepted figures) before = sets before 0 (figures .multiple ∷ figures .divisions ∷ [])
+figuresIn (verdicts.Collide meeting figures) before =
+    sets before 0 (figures .multiple ∷ figures .divisions ∷ meeting .first ∷ meeting .second ∷ meeting .tick ∷ [])
+figuresIn (verdicts.Refused r) before = before

@@ -1,0 +1,4 @@
+-- What bench promises. Read Answer (the number that each function hands back, and the figures), then Promises (that nothing is lost
+-- in that number).
+pub mod Answer
+pub mod Promises

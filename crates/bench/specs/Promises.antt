@@ -1,0 +1,38 @@
+-- What is proved of the numbers that are handed back, a line each; proofs/Promises.antt proves the whole record.
+use Prim.Native.Nat.{ℕ, _≤_}
+use mathlib.Core.Path.{_≡_}
+use mathlib.Core.List.{List}
+use lib.ListN.{length}
+use Rattle.refusal.specs.declared.Refusal.{Refusal}
+use Rattle.refusal.specs.Paper.{none, paper}
+use Rattle.table.specs.Row.{capacity}
+use Rattle.judge.specs.declared.Verdict.the-variants.{Refused}
+use Rattle.judge.specs.Answer.{verdict}
+use Rattle.stored.specs.declared.Saved.the-variants as saves
+use Rattle.stored.specs.declared.Loaded.the-variants as loads
+use Rattle.stored.specs.Answer.{saved, loaded}
+use Rattle.file.specs.Answer.{fileVerdict}
+use Rattle.line.specs.Answer.{lineOf, longest, written}
+use Rattle.bench.specs.Answer.{Parts, code, parts, Fits, verdictParts, verdictCode, writtenParts, writtenCode, savedParts, savedCode, loadedParts, loadedCode}
+
+pub record Promises : Type 0 where
+  -- Nothing is lost in a number: what has room in it is what the header's functions take out of it.
+  pub code-tells : (p : Parts) → Fits p → parts (code p) ≡ p
+  -- So it is with every answer that a call can give.
+  pub judge-tells : (row : List ℕ) → parts (verdictCode (verdict row)) ≡ verdictParts (verdict row)
+  pub judge-stored-tells : (bs : List ℕ) → parts (verdictCode (fileVerdict bs)) ≡ verdictParts (fileVerdict bs)
+  pub line-tells :
+      (row : List ℕ) (room : ℕ) → parts (writtenCode (written (verdict row) room)) ≡ writtenParts (written (verdict row) room)
+  pub line-stored-tells :
+      (bs : List ℕ) (room : ℕ) → parts (writtenCode (written (fileVerdict bs) room)) ≡ writtenParts (written (fileVerdict bs) room)
+  pub save-tells : (row : List ℕ) (room : ℕ) → parts (savedCode (saved row room)) ≡ savedParts (saved row room)
+  pub load-tells : (bs : List ℕ) (room : ℕ) → parts (loadedCode (loaded bs room)) ≡ loadedParts (loaded bs room)
+  -- For a refusal names no train above 64, no line of a verdict is longer than the longest, and a file that is loaded has at most 64
+  -- trains. (That what is saved is at most 1,543 bytes long is `save-longest` of the crate stored.)
+  pub judge-names : (row : List ℕ) (r : Refusal) → verdict row ≡ Refused r → paper r .place ≤ none
+  pub judge-stored-names : (bs : List ℕ) (r : Refusal) → fileVerdict bs ≡ Refused r → paper r .place ≤ none
+  pub save-names : (row : List ℕ) (room : ℕ) (r : Refusal) → saved row room ≡ saves.Refused r → paper r .place ≤ none
+  pub load-names : (bs : List ℕ) (room : ℕ) (r : Refusal) → loaded bs room ≡ loads.Refused r → paper r .place ≤ none
+  pub line-longest : (row : List ℕ) → length (lineOf (verdict row)) ≤ longest
+  pub line-stored-longest : (bs : List ℕ) → length (lineOf (fileVerdict bs)) ≤ longest
+  pub load-few : (bs : List ℕ) (room k : ℕ) → loaded bs room ≡ loads.Count k → k ≤ capacity
