@@ -25,7 +25,7 @@ use Rattle.stored.specs.Layout.{version, headLength, lengthOf}
 use Rattle.stored.specs.Found.{versionIn, countIn, trainsIn}
 use Rattle.stored.specs.Answer.{saveCheck, hasMark, headCheck, timeCheck, storedCheck, loadCheck}
 use Rattle.stored.proofs.Loading.{head-passed}
-use Rattle.stored.proofs.Walk.{records-length}
+use Rattle.stored.proofs.Lengths.{records-length}
 
 -- ---- Core laws
 

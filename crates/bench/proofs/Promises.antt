@@ -1,9 +1,12 @@
 -- The proof of what specs/Promises.antt states.
 -- Assumes nothing.
+use Prim.Native.Nat.{_+_}
 use Rattle.judge.specs.Answer.{verdict}
 use Rattle.file.specs.Answer.{fileVerdict}
+use Rattle.words.specs.Record.{lastAt, recordIn}
 use Rattle.bench.specs.Promises.{Promises}
 use Rattle.bench.proofs.Fitting as fitting
+use Rattle.bench.proofs.Dispatching as dispatching
 
 pub promises : Promises
 promises =
@@ -15,6 +18,9 @@ promises =
       line-stored-tells = λ bs room. fitting.told _ (fitting.written-fits (fileVerdict bs) room (fitting.file-proper bs));
       save-tells = λ row room. fitting.told _ (fitting.saved-fits row room);
       load-tells = λ bs room. fitting.told _ (fitting.loaded-fits bs room);
+      admit-tells = λ ws delay period duration. fitting.told _ (dispatching.admission-fits (recordIn ws) _);
+      withdraw-tells = λ ws q. fitting.told _ (dispatching.withdrawal-fits (recordIn ws) q);
+      step-tells = λ ws count words. fitting.told _ (dispatching.tick-fits (recordIn ws) count (words (lastAt + 1)));
       judge-names = λ row. fitting.row-proper row .named;
       judge-stored-names = λ bs. fitting.file-proper bs .named;
       save-names = fitting.saved-names;
@@ -22,4 +28,6 @@ promises =
       line-longest = λ row. fitting.line-longest (verdict row) (fitting.row-proper row);
       line-stored-longest = λ bs. fitting.line-longest (fileVerdict bs) (fitting.file-proper bs);
       load-few = fitting.loaded-few;
+      admit-place = λ ws delay period duration. dispatching.admission-place (recordIn ws) _;
+      admit-names = λ ws delay period duration. dispatching.admission-names (recordIn ws) _;
     }

@@ -25,6 +25,12 @@ use Rattle.stored.specs.declared.Loaded.{Loaded}
 use Rattle.stored.specs.declared.Loaded.the-variants as loads
 use Rattle.line.specs.declared.Written.{Written}
 use Rattle.line.specs.declared.Written.the-variants as writes
+use Rattle.dispatcher.specs.declared.Admission.{Admission}
+use Rattle.dispatcher.specs.declared.Admission.the-variants as admissions
+use Rattle.dispatcher.specs.declared.Withdrawal.{Withdrawal}
+use Rattle.dispatcher.specs.declared.Withdrawal.the-variants as withdrawals
+use Rattle.dispatcher.specs.declared.Tick.{Tick}
+use Rattle.dispatcher.specs.declared.Tick.the-variants as ticks
 
 -- What an answer holds: the number of the refusal, which is 0 where there is none, a kind, and a place, a length or a count.
 pub record Parts : Type 0 where
@@ -83,6 +89,23 @@ abbrev pub loadedParts : Loaded → Parts
 loadedParts (loads.Count k) = plain 0 k
 loadedParts (loads.Refused r) = refusedParts r
 
+-- The place of the train.
+abbrev pub admissionParts : Admission → Parts
+admissionParts (admissions.At q) = plain 0 q
+admissionParts (admissions.Refused r) = refusedParts r
+
+-- A withdrawal has nothing to say but that it was done.
+abbrev pub withdrawalParts : Withdrawal → Parts
+withdrawalParts withdrawals.Withdrawn = plain 0 0
+withdrawalParts (withdrawals.Refused r) = refusedParts r
+
+-- Idle is kind 0, a start kind 1, a run that goes on kind 2, both with their place.
+abbrev pub tickParts : Tick → Parts
+tickParts ticks.Idle = plain 0 0
+tickParts (ticks.Starts q) = plain 1 q
+tickParts (ticks.GoesOn q) = plain 2 q
+tickParts (ticks.Refused r) = refusedParts r
+
 -- The number of a verdict.
 abbrev pub verdictCode : Verdict → ℕ
 verdictCode v = code (verdictParts v)
@@ -98,6 +121,18 @@ savedCode s = code (savedParts s)
 -- The number of a table that was loaded.
 abbrev pub loadedCode : Loaded → ℕ
 loadedCode l = code (loadedParts l)
+
+-- The number of an admission.
+abbrev pub admissionCode : Admission → ℕ
+admissionCode a = code (admissionParts a)
+
+-- The number of a withdrawal.
+abbrev pub withdrawalCode : Withdrawal → ℕ
+withdrawalCode w = code (withdrawalParts w)
+
+-- The number of a step.
+abbrev pub tickCode : Tick → ℕ
+tickCode t = code (tickParts t)
 
 -- L, the division count, the two trains of a collision and its tick.
 abbrev pub figureCount : ℕ

@@ -1,5 +1,5 @@
 -- What is proved of the numbers that are handed back, a line each; proofs/Promises.antt proves the whole record.
-use Prim.Native.Nat.{ℕ, _≤_}
+use Prim.Native.Nat.{ℕ, _<_, _≤_}
 use mathlib.Core.Path.{_≡_}
 use mathlib.Core.List.{List}
 use lib.ListN.{length}
@@ -10,10 +10,14 @@ use Rattle.judge.specs.declared.Verdict.the-variants.{Refused}
 use Rattle.judge.specs.Answer.{verdict}
 use Rattle.stored.specs.declared.Saved.the-variants as saves
 use Rattle.stored.specs.declared.Loaded.the-variants as loads
+use Rattle.stored.specs.Layout.{Words}
 use Rattle.stored.specs.Answer.{saved, loaded}
 use Rattle.file.specs.Answer.{fileVerdict}
 use Rattle.line.specs.Answer.{lineOf, longest, written}
-use Rattle.bench.specs.Answer.{Parts, code, parts, Fits, verdictParts, verdictCode, writtenParts, writtenCode, savedParts, savedCode, loadedParts, loadedCode}
+use Rattle.dispatcher.specs.declared.Admission.the-variants as admissions
+use Rattle.dispatcher.specs.History.{placeCount}
+use Rattle.words.specs.Answer.{admissionIn, withdrawalIn, steppingIn}
+use Rattle.bench.specs.Answer.{Parts, code, parts, Fits, verdictParts, verdictCode, writtenParts, writtenCode, savedParts, savedCode, loadedParts, loadedCode, admissionParts, admissionCode, withdrawalParts, withdrawalCode, tickParts, tickCode}
 
 pub record Promises : Type 0 where
   -- Nothing is lost in a number: what has room in it is what the header's functions take out of it.
@@ -27,6 +31,12 @@ pub record Promises : Type 0 where
       (bs : List ℕ) (room : ℕ) → parts (writtenCode (written (fileVerdict bs) room)) ≡ writtenParts (written (fileVerdict bs) room)
   pub save-tells : (row : List ℕ) (room : ℕ) → parts (savedCode (saved row room)) ≡ savedParts (saved row room)
   pub load-tells : (bs : List ℕ) (room : ℕ) → parts (loadedCode (loaded bs room)) ≡ loadedParts (loaded bs room)
+  pub admit-tells :
+      (ws : List ℕ) (delay period duration : ℕ) →
+      parts (admissionCode (admissionIn ws delay period duration .answer)) ≡ admissionParts (admissionIn ws delay period duration .answer)
+  pub withdraw-tells : (ws : List ℕ) (q : ℕ) → parts (withdrawalCode (withdrawalIn ws q .answer)) ≡ withdrawalParts (withdrawalIn ws q .answer)
+  pub step-tells :
+      (ws : List ℕ) (count : ℕ) → Words ws → parts (tickCode (steppingIn ws count .answer)) ≡ tickParts (steppingIn ws count .answer)
   -- For a refusal names no train above 64, no line of a verdict is longer than the longest, and a file that is loaded has at most 64
   -- trains. (That what is saved is at most 1,543 bytes long is `save-longest` of the crate stored.)
   pub judge-names : (row : List ℕ) (r : Refusal) → verdict row ≡ Refused r → paper r .place ≤ none
@@ -36,3 +46,9 @@ pub record Promises : Type 0 where
   pub line-longest : (row : List ℕ) → length (lineOf (verdict row)) ≤ longest
   pub line-stored-longest : (bs : List ℕ) → length (lineOf (fileVerdict bs)) ≤ longest
   pub load-few : (bs : List ℕ) (room k : ℕ) → loaded bs room ≡ loads.Count k → k ≤ capacity
+  -- A train is admitted to a place below 64, and the place that a refused admission names is at most 64.
+  pub admit-place :
+      (ws : List ℕ) (delay period duration q : ℕ) → admissionIn ws delay period duration .answer ≡ admissions.At q → q < placeCount
+  pub admit-names :
+      (ws : List ℕ) (delay period duration : ℕ) (r : Refusal) →
+      admissionIn ws delay period duration .answer ≡ admissions.Refused r → paper r .place ≤ none

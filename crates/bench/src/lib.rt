@@ -1,5 +1,8 @@
 // The library that other languages link: the calls of the other crates as C functions over numbers and slices. Each is proved
 // equal to the call that it wraps; include/urzabelki.h is its header. No function has a `requires`.
+use dispatcher::Admission;
+use dispatcher::Tick;
+use dispatcher::Withdrawal;
 use judge::Figures;
 use judge::Meeting;
 use judge::Verdict;
@@ -7,6 +10,7 @@ use line::Written;
 use refusal::Refusal;
 use stored::Loaded;
 use stored::Saved;
+ghost use Prim.Native.Nat.{_^_, _<_};
 ghost use mathlib.Core.Path.{_≡_};
 ghost use mathlib.Core.List.{[], _∷_};
 ghost use lib.ListN.{length};
@@ -15,33 +19,55 @@ ghost use Rattle.judge.specs.Answer.{verdict};
 ghost use Rattle.file.specs.Answer.{fileVerdict};
 ghost use Rattle.line.specs.Answer.{written, writtenIn};
 ghost use Rattle.stored.specs.Answer.{saved, savedIn, loaded, loadedIn};
-ghost use Rattle.bench.specs.Answer.{code, Fits, refusedParts, verdictParts, verdictCode, writtenParts, writtenCode, savedParts, savedCode, loadedParts, loadedCode, figureCount, figuresIn};
+ghost use Rattle.words.specs.Answer.{admissionIn, withdrawalIn, steppingIn, freshIn, admittedIn, withdrewIn, steppedIn};
+ghost use Rattle.bench.specs.Answer.{code, Fits, refusedParts, verdictParts, verdictCode, writtenParts, writtenCode, savedParts, savedCode, loadedParts, loadedCode, admissionParts, admissionCode, withdrawalParts, withdrawalCode, tickParts, tickCode, figureCount, figuresIn};
 
-// Where each figure of a verdict stands.
+// Where L stands among the figures of a verdict.
 const MULTIPLE: usize = 0;
 
+// The division count.
 const DIVISIONS: usize = 1;
 
+// The first train of the pair that collides.
 const FIRST: usize = 2;
 
+// The second.
 const SECOND: usize = 3;
 
+// The earliest tick that both claim.
 const TICK: usize = 4;
 
 // How many figures there are.
 pub const FIGURES: usize = TICK + 1;
 
-// The kinds of a verdict.
+// The kind of a verdict that accepts.
 const ACCEPTED: u32 = 0;
 
+// The kind of a verdict with a collision.
 const COLLIDE: u32 = 1;
+
+// The kind of a step on which nothing runs.
+const IDLE: u32 = 0;
+
+// The kind of a step on which a train starts.
+const STARTS: u32 = 1;
+
+// The kind of a step on which a run goes on.
+const GOES_ON: u32 = 2;
 
 // The kind of an answer that has no other.
 const ONLY: u32 = 0;
 
-// What one kind counts in the number that is handed back, and one number of a refusal.
+// The number of a refusal, where there is none.
+const NOT_REFUSED: u32 = 0;
+
+// Where the words of a dispatcher have the place of the run in progress.
+const RUNS: usize = words::LENGTH - 2;
+
+// What one kind counts in the number that is handed back.
 const KIND_UNIT: u64 = 4294967296;
 
+// What one number of a refusal counts in it.
 const NUMBER_UNIT: u64 = 256 * KIND_UNIT;
 
 // The number that holds a refusal's number, a kind and a value.
@@ -86,12 +112,12 @@ fn hand_verdict(verdict: Verdict, figures: &mut [u64; FIGURES]) -> u64
     match verdict {
         Verdict::Accepted(shown) => {
             put_figures(figures, shown);
-            code(0, ACCEPTED, 0)
+            code(NOT_REFUSED, ACCEPTED, 0)
         }
         Verdict::Collide(meeting, shown) => {
             put_figures(figures, shown);
             put_meeting(figures, meeting);
-            code(0, COLLIDE, 0)
+            code(NOT_REFUSED, COLLIDE, 0)
         }
         Verdict::Refused(refusal) => refused(refusal),
     }
@@ -103,7 +129,7 @@ fn hand_written(written: Written) -> u64
     ensures { λ r. ⌜ r ≡ writtenCode written ⌝ }
 {
     match written {
-        Written::Length(length) => code(0, ONLY, length),
+        Written::Length(length) => code(NOT_REFUSED, ONLY, length),
         Written::Refused(refusal) => refused(refusal),
     }
 }
@@ -114,7 +140,7 @@ fn hand_saved(saved: Saved) -> u64
     ensures { λ r. ⌜ r ≡ savedCode saved ⌝ }
 {
     match saved {
-        Saved::Length(length) => code(0, ONLY, length),
+        Saved::Length(length) => code(NOT_REFUSED, ONLY, length),
         Saved::Refused(refusal) => refused(refusal),
     }
 }
@@ -125,8 +151,50 @@ fn hand_loaded(loaded: Loaded) -> u64
     ensures { λ r. ⌜ r ≡ loadedCode loaded ⌝ }
 {
     match loaded {
-        Loaded::Count(count) => code(0, ONLY, count),
+        Loaded::Count(count) => code(NOT_REFUSED, ONLY, count),
         Loaded::Refused(refusal) => refused(refusal),
+    }
+}
+
+// A word as a place. It has 32 bits.
+fn wide(word: u32) -> usize
+    ensures { λ r. ⌜ (r ≡ word) × (r < 2 ^ 32) ⌝ }
+{
+    word as usize
+}
+
+// The number of an admission.
+fn hand_admission(admission: Admission) -> u64
+    requires { ⌜ Fits (admissionParts admission) ⌝ }
+    ensures { λ r. ⌜ r ≡ admissionCode admission ⌝ }
+{
+    match admission {
+        Admission::At(place) => code(NOT_REFUSED, ONLY, place),
+        Admission::Refused(refusal) => refused(refusal),
+    }
+}
+
+// The number of a withdrawal.
+fn hand_withdrawal(withdrawal: Withdrawal) -> u64
+    requires { ⌜ Fits (withdrawalParts withdrawal) ⌝ }
+    ensures { λ r. ⌜ r ≡ withdrawalCode withdrawal ⌝ }
+{
+    match withdrawal {
+        Withdrawal::Withdrawn => code(NOT_REFUSED, ONLY, 0),
+        Withdrawal::Refused(refusal) => refused(refusal),
+    }
+}
+
+// The number of a step.
+fn hand_tick(tick: Tick) -> u64
+    requires { ⌜ Fits (tickParts tick) ⌝ }
+    ensures { λ r. ⌜ r ≡ tickCode tick ⌝ }
+{
+    match tick {
+        Tick::Idle => code(NOT_REFUSED, IDLE, 0),
+        Tick::Starts(place) => code(NOT_REFUSED, STARTS, place),
+        Tick::GoesOn(place) => code(NOT_REFUSED, GOES_ON, place),
+        Tick::Refused(refusal) => refused(refusal),
     }
 }
 
@@ -173,7 +241,7 @@ pub extern "C" fn urzabelki_save(row: &[u32], bytes: &mut [u8]) -> u64
     ensures answer { λ r. ⌜ r ≡ savedCode (saved (now (row .entry)) (length (now (bytes .entry)))) ⌝ }
     ensures memory { λ _. ⌜ now (bytes .exit) ≡ savedIn (saved (now (row .entry)) (length (now (bytes .entry)))) (now (row .entry)) (now (bytes .entry)) ⌝ }
 {
-    hand_saved(stored::save(row, bytes))
+    hand_saved(save::save(row, bytes))
 }
 
 // Loads a stored table to a row.
@@ -182,5 +250,47 @@ pub extern "C" fn urzabelki_load(bytes: &[u8], row: &mut [u32]) -> u64
     ensures answer { λ r. ⌜ r ≡ loadedCode (loaded (now (bytes .entry)) (length (now (row .entry)))) ⌝ }
     ensures memory { λ _. ⌜ now (row .exit) ≡ loadedIn (loaded (now (bytes .entry)) (length (now (row .entry)))) (now (bytes .entry)) (now (row .entry)) ⌝ }
 {
-    hand_loaded(stored::load(bytes, row))
+    hand_loaded(load::load(bytes, row))
+}
+
+// A dispatcher without a train.
+#[no_mangle]
+pub extern "C" fn urzabelki_fresh(words: &mut [u32; words::LENGTH], count: u32)
+    ensures { λ _. ⌜ now (words .exit) ≡ freshIn count ⌝ }
+{
+    words::fresh(words, count)
+}
+
+// Admits a train.
+#[no_mangle]
+pub extern "C" fn urzabelki_admit(
+    words: &mut [u32; words::LENGTH],
+    delay: u32,
+    period: u32,
+    duration: u32,
+) -> u64
+    ensures answer { λ r. ⌜ r ≡ admissionCode (admissionIn (now (words .entry)) delay period duration .answer) ⌝ }
+    ensures memory { λ _. ⌜ now (words .exit) ≡ admittedIn (admissionIn (now (words .entry)) delay period duration) (now (words .entry)) ⌝ }
+{
+    hand_admission(words::admit(words, delay, period, duration))
+}
+
+// Empties a place.
+#[no_mangle]
+pub extern "C" fn urzabelki_withdraw(words: &mut [u32; words::LENGTH], place: u32) -> u64
+    ensures answer { λ r. ⌜ r ≡ withdrawalCode (withdrawalIn (now (words .entry)) place .answer) ⌝ }
+    ensures memory { λ _. ⌜ now (words .exit) ≡ withdrewIn place (withdrawalIn (now (words .entry)) place) (now (words .entry)) ⌝ }
+{
+    hand_withdrawal(words::withdraw(words, place as usize))
+}
+
+// One tick.
+#[no_mangle]
+pub extern "C" fn urzabelki_step(words: &mut [u32; words::LENGTH], count: u32) -> u64
+    ensures answer { λ r. ⌜ r ≡ tickCode (steppingIn (now (words .entry)) count .answer) ⌝ }
+    ensures memory { λ _. ⌜ now (words .exit) ≡ steppedIn (steppingIn (now (words .entry)) count) (now (words .entry)) ⌝ }
+{
+    // The place that a run goes on at has room in the number, since it is a word; this is read for the proof alone.
+    let _running = wide(words[RUNS]);
+    hand_tick(words::step(words, count))
 }
