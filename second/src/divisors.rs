@@ -1,4 +1,4 @@
-//! Divisors, multiples and fractions, in 128 bits.
+//! Divisors and the division count, in 128 bits.
 
 /// The greatest common divisor by halving and subtracting (Stein), without a single remainder.
 pub fn greatest_common_divisor(mut a: u128, mut b: u128) -> u128 {
@@ -29,33 +29,4 @@ pub fn division_count(a: u128, b: u128) -> u128 {
         taken += 1;
     }
     taken
-}
-
-/// A fraction in lowest terms; one without a denominator as it is.
-pub fn lowest_terms(n: u128, m: u128) -> (u128, u128) {
-    match (n, m) {
-        (_, 0) => (n, m),
-        (0, _) => (0, 1),
-        _ => {
-            let g = greatest_common_divisor(n, m);
-            (n / g, m / g)
-        }
-    }
-}
-
-/// The number k with k · m · a = n · b, if there is just one.
-pub fn whole_ticks((n, m): (u128, u128), (a, b): (u128, u128)) -> Option<u128> {
-    let (time, unit) = (n * b, m * a);
-    if unit == 0 {
-        return None;
-    }
-    let k = time / unit;
-    (k * unit == time).then_some(k)
-}
-
-/// The least common multiple, if it is at most 1,000,000. None stays none.
-pub fn running_multiple(so_far: Option<u128>, d: u128) -> Option<u128> {
-    let m = so_far?;
-    let multiple = if m == 0 || d == 0 { 0 } else { m * d / greatest_common_divisor(m, d) };
-    (multiple <= 1_000_000).then_some(multiple)
 }

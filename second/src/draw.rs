@@ -16,10 +16,15 @@ impl Draw {
         Draw { state: scrambled(scrambled(seed).wrapping_add(case)) }
     }
 
+    /// Any number.
+    pub fn any(&mut self) -> u64 {
+        self.state = self.state.wrapping_add(0x9E37_79B9_7F4A_7C15);
+        scrambled(self.state)
+    }
+
     /// A number from the lowest to the highest, both included.
     pub fn between(&mut self, lowest: u64, highest: u64) -> u64 {
-        self.state = self.state.wrapping_add(0x9E37_79B9_7F4A_7C15);
-        lowest + scrambled(self.state) % (highest - lowest + 1)
+        lowest + self.any() % (highest - lowest + 1)
     }
 
     pub fn once_in(&mut self, turns: u64) -> bool {

@@ -1,39 +1,27 @@
-//! Saves and loads drawn from a seed, how they are handed to the program `calls`, and what it has to write for each.
-//! Each kind is aimed at a place of the paper where a program is likely to go wrong. What a call deserves is not
-//! settled here, but in `stored`.
+//! Rows to be saved and files to be loaded, drawn from a seed, with the room that is lent for them. Each kind is aimed at a
+//! place of the paper where a program is likely to go wrong. What they deserve is not settled here, but in `stored`.
 
 use crate::draw::Draw;
 use crate::rows;
-use crate::stored::{load, packed, save, Refused, BYTES_A_TRAIN, HEAD};
-use crate::tables::{lowest, Time, MOST_NUMBERS, NUMBERS_A_TRAIN};
-use std::fmt;
+use crate::stored::{load, packed, save, BYTES_A_TRAIN, HEAD};
+use crate::tables::{lowest, Time, NUMBERS_A_TRAIN};
 
-/// The longest file and the most bytes that are lent, beyond the 1,543 of the longest good file.
+/// The most bytes that are lent, and the longest file but for a few, beyond the 1,543 of the longest good file.
 const LONGEST_FILE: usize = 1_600;
 
 /// The most numbers that are lent, beyond the 384 that a table takes.
 const LONGEST_ROW: usize = 400;
-
-/// What each byte of the lent memory is before the call.
-const PATTERN: u8 = 0xA5;
 
 const LARGEST: u64 = u32::MAX as u64;
 
 /// More rows than are ever drawn until one can be saved, so that a wrong program does not go on for ever.
 const TRIES: usize = 1_000;
 
-/// A call, and the length of the memory that is lent to it for its result.
-pub enum Case {
-    Save { row: Vec<u32>, room: usize },
-    Load { file: Vec<u8>, room: usize },
-}
-
-/// The kinds of rows that are saved; the first has many kinds itself, and comes twice. They and the kinds of files come
-/// round in turn.
+/// The kinds of rows that are saved, which come round in turn; the first has many kinds itself, and comes twice.
 const SAVED: [fn(&mut Draw) -> Vec<u32>; 5] =
     [any_row, any_row, row_at_the_limit, row_of_small_numbers, large_fractions];
 
-/// The kinds of files that are loaded.
+/// The kinds of files that are loaded, which come round in turn.
 const LOADED: [fn(&mut Draw) -> Vec<u8>; 18] = [
     undamaged,
     truncated,
@@ -55,19 +43,24 @@ const LOADED: [fn(&mut Draw) -> Vec<u8>; 18] = [
     short,
 ];
 
-/// A case: its kind by its number, the rest by the seed.
-pub fn case(seed: u64, number: u64) -> Case {
-    let draw = &mut Draw::new(seed, number);
-    let kind = (number % (SAVED.len() + LOADED.len()) as u64) as usize;
-    if kind < SAVED.len() {
-        let row = SAVED[kind](draw);
-        let needed = HEAD + row.len() / NUMBERS_A_TRAIN * BYTES_A_TRAIN;
-        Case::Save { row, room: room(draw, needed, LONGEST_FILE) }
-    } else {
-        let file = LOADED[kind - SAVED.len()](draw);
-        let needed = file.len().saturating_sub(HEAD) / BYTES_A_TRAIN * NUMBERS_A_TRAIN;
-        Case::Load { file, room: room(draw, needed, LONGEST_ROW) }
-    }
+/// A row to be saved, and the room for its bytes: its kind by the case's number, the rest by the seed.
+pub fn saved(seed: u64, case: u64) -> (Vec<u32>, usize) {
+    let draw = &mut Draw::new(seed, case);
+    let row = SAVED[(case % SAVED.len() as u64) as usize](draw);
+    let needed = HEAD + row.len() / NUMBERS_A_TRAIN * BYTES_A_TRAIN;
+    let room = room(draw, needed, LONGEST_FILE);
+    (row, room)
+}
+
+/// A file to be loaded, likewise.
+pub fn loaded(seed: u64, case: u64) -> Vec<u8> {
+    LOADED[(case % LOADED.len() as u64) as usize](&mut Draw::new(seed, case))
+}
+
+/// A room for the numbers of a file.
+pub fn room_for(draw: &mut Draw, file: &[u8]) -> usize {
+    let needed = file.len().saturating_sub(HEAD) / BYTES_A_TRAIN * NUMBERS_A_TRAIN;
+    room(draw, needed, LONGEST_ROW)
 }
 
 /// A room for what is needed: none, too little by one, just enough, more than enough, or any.
@@ -77,104 +70,14 @@ fn room(draw: &mut Draw, needed: usize, most: usize) -> usize {
     draw.of(&[0, needed.saturating_sub(1), needed, needed, more, more, more, any]).min(most)
 }
 
-impl Case {
-    /// The call as bytes: a letter, the room and the length in two bytes each, and what is saved or loaded; most
-    /// significant byte first.
-    pub fn bytes(&self) -> Vec<u8> {
-        let (letter, room, length, content) = match self {
-            Case::Save { row, room } => (b'S', room, row.len(), in_bytes(row)),
-            Case::Load { file, room } => (b'L', room, file.len(), file.clone()),
-        };
-        let mut bytes = vec![letter];
-        bytes.extend((*room as u16).to_be_bytes());
-        bytes.extend((length as u16).to_be_bytes());
-        bytes.extend(content);
-        bytes
-    }
-
-    /// What the call answers, which is a length or a count, and what it writes; or its refusal.
-    fn answered(&self) -> Result<(usize, Vec<u8>), Refused> {
-        match self {
-            Case::Save { row, room } => saved(row, *room),
-            Case::Load { file, room } => loaded(file, *room),
-        }
-    }
-
-    /// What the program `calls` has to write: 0, the length or the count, and 0; or 1, the refusal's number, and its
-    /// train; and then the whole of the lent memory.
-    pub fn answer(&self) -> Vec<u8> {
-        let mut memory = match self {
-            Case::Save { room, .. } => vec![PATTERN; *room],
-            Case::Load { room, .. } => vec![PATTERN; 4 * room],
-        };
-        let (status, first, second) = match self.answered() {
-            Ok((answered, written)) => {
-                memory[..written.len()].copy_from_slice(&written);
-                (0, answered, 0)
-            }
-            Err((number, train)) => (1, number as usize, train),
-        };
-        let mut bytes = vec![status];
-        bytes.extend((first as u16).to_be_bytes());
-        bytes.extend((second as u16).to_be_bytes());
-        bytes.extend(memory);
-        bytes
-    }
-
-    /// The answer as a line.
-    pub fn outcome(&self) -> String {
-        let name = match self {
-            Case::Save { .. } => "save",
-            Case::Load { .. } => "load",
-        };
-        match self.answered() {
-            Ok((answered, _)) => format!("{name} done {answered}"),
-            Err((number, train)) => format!("{name} refuse {number} {train}"),
-        }
-    }
-}
-
-impl fmt::Display for Case {
-    fn fmt(&self, out: &mut fmt::Formatter) -> fmt::Result {
-        match self {
-            Case::Save { row, room } => writeln!(out, "room for {room} bytes; row {row:?}")?,
-            Case::Load { file, room } => writeln!(out, "room for {room} numbers; file {}", hex(file))?,
-        }
-        write!(out, "{}; written {}", self.outcome(), hex(&self.answer()))
-    }
-}
-
 pub fn hex(bytes: &[u8]) -> String {
     let digits: Vec<String> = bytes.iter().map(|byte| format!("{byte:02x}")).collect();
     digits.join(" ")
 }
 
-fn in_bytes(numbers: &[u32]) -> Vec<u8> {
-    numbers.iter().flat_map(|number| number.to_be_bytes()).collect()
-}
-
 /// The numerator of one fraction times the denominator of another, by which two of them are compared.
 fn crossed(a: &[u32], b: &[u32]) -> u64 {
     u64::from(a[0]) * u64::from(b[1])
-}
-
-/// What saving answers and writes. A saved table, once loaded, is of the same fractions; saved again, it is the same
-/// file.
-fn saved(row: &[u32], room: usize) -> Result<(usize, Vec<u8>), Refused> {
-    let file = save(row, room)?;
-    let again = load(&file, MOST_NUMBERS).expect("a saved table can be loaded");
-    for (before, after) in row.chunks(2).zip(again.chunks(2)) {
-        assert_eq!(crossed(before, after), crossed(after, before), "the second program saves another fraction");
-    }
-    assert_eq!(save(&again, file.len()).as_ref(), Ok(&file), "the second program saves the same table in two ways");
-    Ok((file.len(), file))
-}
-
-/// What loading answers and writes. A good file is the one that its own table is saved as.
-fn loaded(file: &[u8], room: usize) -> Result<(usize, Vec<u8>), Refused> {
-    let row = load(file, room)?;
-    assert_eq!(save(&row, file.len()).as_deref(), Ok(file), "the second program loads what it would not save");
-    Ok((row.len() / NUMBERS_A_TRAIN, in_bytes(&row)))
 }
 
 // ---- rows to be saved
@@ -225,7 +128,7 @@ fn lowest_row(draw: &mut Draw) -> Vec<u32> {
 }
 
 /// A good file with at least one train.
-fn good(draw: &mut Draw) -> Vec<u8> {
+pub fn good(draw: &mut Draw) -> Vec<u8> {
     packed(&lowest_row(draw))
 }
 
@@ -239,7 +142,8 @@ fn undamaged(draw: &mut Draw) -> Vec<u8> {
 
 /// As many trains as a table takes or more, in a file of the length that its count asks for.
 fn at_the_limit(draw: &mut Draw) -> Vec<u8> {
-    let count = draw.of(&[63, 64, 64, 64, 65, 66]);
+    let far = if draw.once_in(100) { draw.of(&[256 + 64, 2_731, u16::MAX.into()]) } else { 66 };
+    let count = draw.of(&[63, 64, 64, 64, 65, far]);
     let row = lowest_row(draw).into_iter().cycle().take(count * NUMBERS_A_TRAIN).collect::<Vec<_>>();
     packed(&row)
 }
@@ -256,12 +160,12 @@ fn truncated(draw: &mut Draw) -> Vec<u8> {
     file
 }
 
-/// A file that goes on: by a byte, by a train, or by any bytes.
+/// A file that goes on: by a byte, by a train, by any bytes, or so far that its length is the same in 16 bits.
 fn lengthened(draw: &mut Draw) -> Vec<u8> {
     let mut file = good(draw);
     let any = draw.between(1, 50) as usize;
-    let more = draw.of(&[1, BYTES_A_TRAIN, any]);
-    let length = (file.len() + more).min(LONGEST_FILE);
+    let far = if draw.once_in(10) { 1 << 16 } else { any };
+    let length = file.len() + draw.of(&[1, BYTES_A_TRAIN, any, far]);
     file.resize_with(length, || any_byte(draw));
     file
 }

@@ -1,5 +1,5 @@
-//! Rows drawn from a seed, and how they are handed over. Each kind is aimed at a place of the paper where a program is
-//! likely to go wrong. What verdict a row deserves is not settled here.
+//! Rows drawn from a seed. Each kind is aimed at a place of the paper where a program is likely to go wrong. What verdict a
+//! row deserves is not settled here.
 //!
 //! A search for the earliest common tick may take as many turns as a period has the divisor of both in it. So where
 //! trains collide that number is modest, but for one row in `LARGE` of some kinds.
@@ -13,8 +13,11 @@ const MOST_MULTIPLE: u64 = 1_000_000;
 const MOST_TICKS: u64 = 10_000_000;
 const LARGEST: u64 = u32::MAX as u64;
 
-/// The longest row, beyond the 384 numbers that a table takes.
+/// The longest row but for a few, beyond the 384 numbers that a table takes.
 const LONGEST: u64 = 400;
+
+/// Lengths far beyond, the last of which is six trains in 16 bits.
+const FAR: [usize; 6] = [402, 408, 768, 4_096, 65_538, 3 * 65_536 + 36];
 
 /// One row in so many of its kind has trains that may meet only after millions of periods.
 const LARGE: u64 = 700;
@@ -58,15 +61,6 @@ pub fn row(seed: u64, case: u64) -> Vec<u32> {
         0 => every_length(draw, case / round),
         kind => KINDS[kind as usize - 1](draw),
     }
-}
-
-/// The call that judges the row, as bytes for the program `calls`: a letter, no lent memory, the length in two bytes, and
-/// each number in four, most significant byte first.
-pub fn bytes(row: &[u32]) -> Vec<u8> {
-    let mut bytes = vec![b'J', 0, 0];
-    bytes.extend((row.len() as u16).to_be_bytes());
-    bytes.extend(row.iter().flat_map(|number| number.to_be_bytes()));
-    bytes
 }
 
 // ---- trains in ticks, and how they are written down
@@ -141,6 +135,9 @@ fn every_length(draw: &mut Draw, round: u64) -> Vec<u32> {
     let mut row = written_somehow(draw, &trains);
     if draw.once_in(4) {
         row.fill_with(|| any_number(draw));
+    }
+    if draw.once_in(400) {
+        return row.into_iter().cycle().take(draw.of(&FAR)).collect();
     }
     row.truncate(length);
     row

@@ -1,7 +1,7 @@
 //! Stored tables, from the paper's words. A file is taken apart in one pass, in which a byte that is not there counts
 //! as 0. So every question can be asked of any file: its faults stand in the paper's order, and the first is answered.
 
-use crate::tables::{self, fault, lowest, times, Time, MOST_NUMBERS, NO_TRAIN, NUMBERS_A_TRAIN};
+use crate::tables::{self, fault, lowest, times, Time, Verdict, MOST_NUMBERS, NO_TRAIN, NUMBERS_A_TRAIN};
 
 const MARK: [u8; 3] = *b"STT";
 const VERSION: u16 = 1;
@@ -92,10 +92,15 @@ fn next<const LENGTH: usize>(rest: &mut impl Iterator<Item = u8>) -> [u8; LENGTH
     [(); LENGTH].map(|()| rest.next().unwrap_or(0))
 }
 
+/// The verdict on a file: that on its row, if it can be loaded.
+pub fn verdict(bytes: &[u8]) -> Verdict {
+    match load(bytes, MOST_NUMBERS) {
+        Ok(row) => tables::verdict(&row),
+        Err((number, train)) => Verdict::Refuse { number, train },
+    }
+}
+
 /// What the program `verdict` has to print for an input.
 pub fn line(input: &[u8]) -> String {
-    match load(&input[..input.len().min(MOST_JUDGED)], MOST_NUMBERS) {
-        Ok(row) => tables::line(&row),
-        Err((number, train)) => format!("refuse {number} {train}\n"),
-    }
+    verdict(&input[..input.len().min(MOST_JUDGED)]).line()
 }

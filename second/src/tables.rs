@@ -17,7 +17,7 @@ pub const NO_TRAIN: usize = 64;
 /// A table that repeats itself within so many ticks is walked tick by tick as well.
 const WALKED_TICKS: i128 = 2_000;
 
-enum Verdict {
+pub enum Verdict {
     Accept { multiple: u32, divisions: u128 },
     Collide { meeting: Meeting, multiple: u32, divisions: u128 },
     Refuse { number: u32, train: usize },
@@ -25,10 +25,10 @@ enum Verdict {
 
 /// Two positions of the table, and the earliest tick that both claim.
 #[derive(PartialEq, Debug)]
-struct Meeting {
-    first: usize,
-    second: usize,
-    tick: i128,
+pub struct Meeting {
+    pub first: usize,
+    pub second: usize,
+    pub tick: i128,
 }
 
 impl fmt::Display for Verdict {
@@ -43,13 +43,15 @@ impl fmt::Display for Verdict {
     }
 }
 
-/// The printed line, with its end.
-pub fn line(row: &[u32]) -> String {
-    format!("{}\n", verdict(row))
+impl Verdict {
+    /// The printed line, with its end.
+    pub fn line(&self) -> String {
+        format!("{self}\n")
+    }
 }
 
 /// The refusals in the paper's order, each with the train that it blames, and then the pairs.
-fn verdict(row: &[u32]) -> Verdict {
+pub fn verdict(row: &[u32]) -> Verdict {
     if row.len() % NUMBERS_A_TRAIN != 0 || row.len() > MOST_NUMBERS {
         return Verdict::Refuse { number: 1, train: NO_TRAIN };
     }
