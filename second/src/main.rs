@@ -8,9 +8,11 @@ mod divisors;
 mod draw;
 mod files;
 mod library;
+mod records;
 mod rows;
 mod scripts;
 mod sheet;
+mod states;
 mod stored;
 mod sweeps;
 mod tables;
@@ -25,7 +27,8 @@ use std::process::ExitCode;
 const USAGE: &str = "\
 usage: second compare SEED CASES
                                  compares the proved library with the second program on so many cases drawn from
-                                 the seed: verdicts on rows, saves, loads and verdicts on files; the first
+                                 the seed: verdicts on rows, saves, loads and verdicts on files, calls of a
+                                 dispatcher, and calls on words that no calls need have led to; the first
                                  difference is shown with its case, and the exit status is then 1
        second sheet              the lines of the tables of the bench sheet, in order
        second damaged PROGRAM FILE..

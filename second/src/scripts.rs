@@ -1,7 +1,7 @@
-//! Calls of a dispatcher drawn from a seed, and how they are handed to the program `play`. They come in scenes, each
-//! with its own kind of trains, and each kind is aimed at a place of the paper where a program is likely to go wrong. The
-//! second dispatcher plays along, so that trains are withdrawn in mid-run and come close to those that are placed. What a
-//! call answers is not settled here, but in `dispatcher`.
+//! Calls of a dispatcher drawn from a seed. They come in scenes, each with its own kind of trains, and each kind is aimed at
+//! a place of the paper where a program is likely to go wrong. The second dispatcher plays along, so that trains are
+//! withdrawn in mid-run and come close to those that are placed. What a call answers is not settled here, but in
+//! `dispatcher`.
 
 use crate::dispatcher::{Answer, Call, Dispatcher, Train};
 use crate::draw::Draw;
@@ -58,6 +58,8 @@ struct Scene {
     base: u64,
     slots: Vec<(u64, u64)>,
     multiples: &'static [u64],
+    /// How late the trains in slots first start, in a scene that goes on until then; else 0.
+    latest: u64,
     /// The longest stretch of steps that nothing interrupts.
     longest: u64,
     /// How many calls are still to come.
@@ -70,8 +72,9 @@ type Kind = fn(&mut Scene, &Dispatcher) -> Strokes;
 const KINDS: [Kind; 8] = [small, in_a_slot, beside_a_slot, beside_a_train, fibonacci, coprime, long, at_a_limit];
 
 /// The kinds of scenes, which come round in turn: the favourite kind of train, the most slots, the longest of them, and
-/// the multiples of the base. The first two are full houses: as many slots as places, all taken at the start.
-const SCENES: [(Kind, u64, u64, &[u64]); 12] = [
+/// the multiples of the base. The first two are full houses: as many slots as places, all taken at the start. The last goes
+/// on until its late trains start.
+const SCENES: [(Kind, u64, u64, &[u64]); 13] = [
     (in_a_slot, PLACES, 1, &[1]),
     (in_a_slot, PLACES, 5, &[1, 2, 3, 5, 8]),
     (small, 4, 2, &[1, 2]),
@@ -84,7 +87,11 @@ const SCENES: [(Kind, u64, u64, &[u64]); 12] = [
     (long, 5, 2_000, &[1, 2, 3, 100]),
     (at_a_limit, 6, 2, &[1, 2]),
     (in_a_slot, 20, 1, &[1, 1, 2, 50_000]),
+    (in_a_slot, 6, 30, &[1, 2, 7]),
 ];
+
+/// How late they start.
+const LATE: [u64; 12] = [800, 800, 800, 2_500, 2_500, 2_500, 2_500, 2_500, 2_500, 2_500, 2_500, 25_000];
 
 impl Scene {
     fn new(seed: u64, number: u64) -> Scene {
@@ -102,7 +109,10 @@ impl Scene {
         }
         let longest = draw.of(&[1, 8, 40, 40, 300, 1_000]);
         let left = draw.of(&[30, 150, 150, 600, 600, 3_000]);
-        Scene { draw, favourite, base, slots, multiples, longest, left }
+        let is_late = number % SCENES.len() as u64 == SCENES.len() as u64 - 1;
+        let latest = if is_late { draw.of(&LATE) } else { 0 };
+        let (longest, left) = if is_late { (latest / 2, latest + latest / 5) } else { (longest, left) };
+        Scene { draw, favourite, base, slots, multiples, latest, longest, left }
     }
 
     /// A fresh start, mostly so that the count wraps in the scene; seldom none, so that trains of two kinds meet.
@@ -152,9 +162,11 @@ impl Scene {
         }
     }
 
-    /// A train that has this slot for itself, from the next time on that it comes round, or a few times later.
+    /// A train that has this slot for itself, from the next time on that it comes round, or some times later.
     fn slot(&mut self, (start, length): (u64, u64), dispatcher: &Dispatcher) -> Strokes {
-        let delay = until(start, self.base, dispatcher) + self.base * self.turns(self.base);
+        let late = self.latest * self.draw.between(1, 10) / 10 / self.base;
+        let turns = if self.latest > 0 { late } else { self.turns(self.base) };
+        let delay = until(start, self.base, dispatcher) + self.base * turns;
         [delay, self.period(), self.draw.of(&[1, length, length])]
     }
 

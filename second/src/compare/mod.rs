@@ -1,11 +1,13 @@
 //! Compares the proved library with the second program, in this one process, on cases drawn from a seed. The first
 //! difference ends it, and is shown with the whole case. At the end a line for each kind says what was compared.
 
+mod calls;
 mod loads;
 mod memory;
 mod saves;
 mod tally;
 mod verdicts;
+mod words;
 
 use crate::library::Parts;
 use memory::{Element, Lent};
@@ -20,8 +22,13 @@ type Difference = String;
 type Kind = fn(seed: u64, cases: u64) -> Result<Vec<Tally>, (u64, Difference)>;
 
 /// The kinds, each with its share of a hundred cases.
-const KINDS: [(&str, u64, Kind); 3] =
-    [("verdicts", 30, verdicts::compare), ("saves", 20, saves::compare), ("loads", 50, loads::compare)];
+const KINDS: [(&str, u64, Kind); 5] = [
+    ("verdicts", 15, verdicts::compare),
+    ("saves", 10, saves::compare),
+    ("loads", 20, loads::compare),
+    ("calls", 30, calls::compare),
+    ("words", 25, words::compare),
+];
 
 /// From so many cases on, every answer has to be met.
 const MANY: u64 = 100_000;
