@@ -9,6 +9,7 @@ mod draw;
 mod files;
 mod library;
 mod records;
+mod replay;
 mod rows;
 mod scripts;
 mod sheet;
@@ -16,11 +17,10 @@ mod states;
 mod stored;
 mod sweeps;
 mod tables;
+mod texts;
 mod trains;
 mod wrap;
 
-use dispatcher::{Answer, Call};
-use scripts::Script;
 use std::io::{stdout, BufWriter, Result, Write};
 use std::process::ExitCode;
 
@@ -34,11 +34,12 @@ usage: second compare SEED CASES
        second damaged PROGRAM FILE..
                                  compares what the program `verdict`, which is at PROGRAM, prints for each
                                  stored table, for every beginning of it, and for it with other bytes
-       second script SEED CALLS  calls of a dispatcher drawn from the seed, for the program `play`
+       second script SEED CALLS  a text of calls of a dispatcher drawn from the seed, with bad lines among them, for
+                                 the program `replay`
        second script-lines SEED CALLS
-                                 what the program `play` has to print for them
-       second wrap-script        calls across the wrap of the count, written out, for the program `play`
-       second wrap-lines         what it has to print for them
+                                 what the program `replay` has to print for it
+       second wrap-script        a text of calls across the wrap of the count, written out, for the program `replay`
+       second wrap-lines         what it has to print for it
 ";
 
 fn main() -> ExitCode {
@@ -71,8 +72,8 @@ fn run(words: &[&str], out: &mut impl Write) -> Option<Result<()>> {
         ["damaged", program, files @ ..] if !files.is_empty() => {
             Some(damaged::compare(program, files).and_then(|said| out.write_all(said.as_bytes())))
         }
-        ["wrap-script"] => Some(wrap::script().into_iter().try_for_each(|call| out.write_all(&scripts::bytes(call)))),
-        ["wrap-lines"] => Some(play_lines(scripts::played(wrap::script()), out)),
+        ["wrap-script"] => Some(out.write_all(&wrap::text())),
+        ["wrap-lines"] => Some(out.write_all(replay::answers(&wrap::text()).as_bytes())),
         [command, seed, number] => drawn(command, seed.parse().ok()?, number.parse().ok()?, out),
         _ => None,
     }
@@ -82,18 +83,8 @@ fn run(words: &[&str], out: &mut impl Write) -> Option<Result<()>> {
 fn drawn(command: &str, seed: u64, number: u64, out: &mut impl Write) -> Option<Result<()>> {
     match command {
         "compare" => Some(compare::compare(seed, number, out)),
-        "script" => Some(script(seed, number).try_for_each(|(call, _)| out.write_all(&scripts::bytes(call)))),
-        "script-lines" => Some(play_lines(script(seed, number), out)),
+        "script" => Some(out.write_all(&texts::drawn(seed, number))),
+        "script-lines" => Some(out.write_all(replay::answers(&texts::drawn(seed, number)).as_bytes())),
         _ => None,
     }
-}
-
-fn script(seed: u64, calls: u64) -> impl Iterator<Item = (Call, Answer)> {
-    Script::new(seed).take(calls as usize)
-}
-
-/// What the program `play` has to print: the lines of the bench sheet's paragraph, and those of the calls.
-fn play_lines(mut played: impl Iterator<Item = (Call, Answer)>, out: &mut impl Write) -> Result<()> {
-    out.write_all(scripts::paragraph_lines().as_bytes())?;
-    played.try_for_each(|(_, answer)| writeln!(out, "{answer}"))
 }

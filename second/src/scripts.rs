@@ -15,38 +15,6 @@ const LARGEST: u64 = u32::MAX as u64;
 /// Delay, period and duration.
 type Strokes = [u64; 3];
 
-/// The bench sheet's paragraph on the dispatcher.
-pub const PARAGRAPH: [Call; 6] = [
-    Call::Fresh(4_294_967_295),
-    Call::Admit(0, 8, 2),
-    Call::Admit(3, 12, 1),
-    Call::Step(0),
-    Call::Admit(0, 4, 1),
-    Call::Admit(1, 4, 1),
-];
-
-/// A call as bytes: a letter and three numbers in four bytes each, most significant byte first; 0 where it has fewer.
-pub fn bytes(call: Call) -> Vec<u8> {
-    let (letter, numbers) = match call {
-        Call::Fresh(count) => (b'F', [count, 0, 0]),
-        Call::Admit(delay, period, duration) => (b'A', [delay, period, duration]),
-        Call::Withdraw(place) => (b'W', [place, 0, 0]),
-        Call::Step(count) => (b'S', [count, 0, 0]),
-    };
-    [letter].into_iter().chain(numbers.into_iter().flat_map(u32::to_be_bytes)).collect()
-}
-
-/// The calls with their answers, beginning with a fresh dispatcher at 0.
-pub fn played(calls: impl IntoIterator<Item = Call>) -> impl Iterator<Item = (Call, Answer)> {
-    let mut dispatcher = Dispatcher::fresh(0);
-    calls.into_iter().map(move |call| (call, dispatcher.play(call)))
-}
-
-/// What the program `play` prints before it reads a call.
-pub fn paragraph_lines() -> String {
-    played(PARAGRAPH).map(|(_, answer)| format!("{answer}\n")).collect()
-}
-
 // ---- scenes
 
 /// What the calls of a stretch of the script have in common.

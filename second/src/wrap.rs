@@ -1,11 +1,28 @@
-//! A script of calls across the wrap of the count, written out. It stands beside the program `play`, with what that has
+//! A text of calls across the wrap of the count, written out. It stands beside the program `replay`, with what that has
 //! to print for it.
 
 use crate::dispatcher::Call::{self, Admit, Fresh, Step, Withdraw};
 
-pub fn script() -> Vec<Call> {
-    [trains(), refusals(), to_the_wrap(), across_the_wrap(), taken_over(), used_again(), full_house(), long_run()]
-        .concat()
+/// The calls, a line each, and the lines that are odd or bad.
+pub fn text() -> Vec<u8> {
+    let calls = [
+        paragraph(),
+        trains(),
+        refusals(),
+        to_the_wrap(),
+        across_the_wrap(),
+        taken_over(),
+        used_again(),
+        full_house(),
+        long_run(),
+    ];
+    let lines: String = calls.concat().into_iter().map(|call| format!("{call}\n")).collect();
+    [lines.into_bytes(), odd_lines()].concat()
+}
+
+/// The bench sheet's paragraph on the dispatcher.
+fn paragraph() -> Vec<Call> {
+    vec![Fresh(4_294_967_295), Admit(0, 8, 2), Admit(3, 12, 1), Step(0), Admit(0, 4, 1), Admit(1, 4, 1)]
 }
 
 /// Steps with the counts from `first` to `last`.
@@ -140,4 +157,30 @@ fn long_run() -> Vec<Call> {
         Step(3),
         Step(4),
     ]
+}
+
+/// Lines that are calls though they look odd, and lines that are none; the last has no newline.
+fn odd_lines() -> Vec<u8> {
+    let zeros = "0".repeat(74);
+    let lines = [
+        // leading zeros; a carriage return; both; 80 bytes, without a carriage return and with one
+        "fresh 00000000007\n".to_string(),
+        "admit 0 8 2\r\n".to_string(),
+        "step 008\r\n".to_string(),
+        format!("step {zeros}9\n"),
+        format!("step {zeros}10\r\n").replacen("00", "0", 1),
+        // 81 bytes; two carriage returns; one that is not at the end
+        format!("step {zeros}11\n"),
+        "step 11\r\r\n".to_string(),
+        "step\r 11\n".to_string(),
+        // spaces before, between and behind; a tab; no number; one too many; none at all
+        " step 11\nstep  11\nstep 11 \nstep\t11\nstep\nstep \nstep 11 0\n\n\r\n".to_string(),
+        // what is no number of 32 bits, or no digits
+        "step 4294967296\nstep 18446744073709551627\nstep +11\nstep -1\nstep 1_1\nstep 0x0b\n".to_string(),
+        // no call
+        "Step 11\nSTEP 11\nstop 11\nadmit 3 12\nadmit 3 12 1 0\nwithdraw\nbad\n".to_string(),
+        // nothing was changed by these
+        "step 11\nwithdraw 0".to_string(),
+    ];
+    lines.concat().into_bytes()
 }
