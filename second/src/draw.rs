@@ -16,6 +16,11 @@ impl Draw {
         Draw { state: scrambled(scrambled(seed).wrapping_add(case)) }
     }
 
+    /// Another drawing for the same case: of what is lent to it, say, and not of what it is.
+    pub fn beside(seed: u64, case: u64) -> Draw {
+        Draw::new(!seed, case)
+    }
+
     /// Any number.
     pub fn any(&mut self) -> u64 {
         self.state = self.state.wrapping_add(0x9E37_79B9_7F4A_7C15);

@@ -33,7 +33,7 @@ impl Sweeps {
             if let Some(file) = self.next.next() {
                 return file;
             }
-            let draw = Draw::new(self.seed ^ 0x5357_4545_50, self.swept);
+            let draw = Draw::new(self.seed, self.swept);
             self.next = if self.swept % TURNS == 0 { whole_sweep(draw) } else { drawn_sweep(draw) };
             self.swept += 1;
         }

@@ -16,7 +16,7 @@ const TRIES: usize = 1_000;
 
 /// The text of so many drawn calls; every other text has no newline at its end.
 pub fn drawn(seed: u64, calls: u64) -> Vec<u8> {
-    let draw = &mut Draw::new(!seed, calls);
+    let draw = &mut Draw::beside(seed, calls);
     let mut text = Vec::new();
     for (call, _) in Script::new(seed).take(calls as usize) {
         if draw.once_in(BAD) {

@@ -35,7 +35,7 @@ pub fn compare(seed: u64, cases: u64) -> Result<Vec<Tally>, (u64, Difference)> {
     let mut tally = Tally::new("calls", &ANSWERS);
     let mut stages: Vec<Stage> = (0..STAGES).map(|number| Stage::new(seed, number)).collect();
     for case in 0..cases {
-        let turn = Draw::new(!seed, case).position(stages.len());
+        let turn = Draw::beside(seed, case).position(stages.len());
         let answer = stages[turn].play_next().map_err(|difference| (case, difference))?;
         tally.count(&answer.to_string());
     }

@@ -44,7 +44,7 @@ pub fn compare(seed: u64, cases: u64) -> Result<Vec<Tally>, (u64, Difference)> {
     let mut judged = Tally::new("verdicts on the same files", &JUDGED);
     let mut sweeps = Sweeps::new(seed);
     for case in 0..cases {
-        let draw = &mut Draw::new(!seed, case);
+        let draw = &mut Draw::beside(seed, case);
         let file = if case % 2 == 0 { files::loaded(seed, case / 2) } else { sweeps.file() };
         let room = files::room_for(draw, &file);
         let load = check(&file, room, draw).map_err(|difference| (case, difference))?;

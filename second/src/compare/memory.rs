@@ -66,7 +66,11 @@ impl<T: Element> Lent<T> {
     pub fn shown(&self, front: &[T]) -> String {
         let mut right: Vec<T> = (0..self.all.len()).map(|index| pattern(self.salt, index)).collect();
         right[MARGIN..MARGIN + front.len()].copy_from_slice(front);
-        let found = format!("memory, {MARGIN} elements before it and behind it included: {:?}", self.all);
-        format!("{found}\nthe second program's: {right:?}")
+        let first = match self.all.iter().zip(&right).position(|(found, right)| found != right) {
+            Some(index) => format!("the memory differs first at index {}", index as i64 - MARGIN as i64),
+            None => "the memory is the same".to_string(),
+        };
+        let found = format!("the library's memory, with {MARGIN} elements before it and behind it: {:?}", self.all);
+        format!("{first}\n{found}\nthe second program's: {right:?}")
     }
 }

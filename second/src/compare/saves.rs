@@ -14,7 +14,7 @@ pub fn compare(seed: u64, cases: u64) -> Result<Vec<Tally>, (u64, Difference)> {
     let mut tally = Tally::new("saves", &ANSWERS);
     for case in 0..cases {
         let (row, room) = files::saved(seed, case);
-        let saved = check(&row, room, &mut Draw::new(!seed, case)).map_err(|difference| (case, difference))?;
+        let saved = check(&row, room, &mut Draw::beside(seed, case)).map_err(|difference| (case, difference))?;
         tally.count(&saved.map_or_else(|(number, _)| format!("refuse {number}"), |_| "saved".to_string()));
     }
     Ok(vec![tally])

@@ -24,7 +24,7 @@ pub fn compare(seed: u64, cases: u64) -> Result<Vec<Tally>, (u64, Difference)> {
     for case in 0..cases {
         let row = rows::row(seed, case);
         let verdict = tables::verdict(&row);
-        check(&Input::Row(&row), &verdict, &mut Draw::new(!seed, case)).map_err(|difference| (case, difference))?;
+        check(&Input::Row(&row), &verdict, &mut Draw::beside(seed, case)).map_err(|difference| (case, difference))?;
         tally.count(&verdict.to_string());
     }
     Ok(vec![tally])
