@@ -21,13 +21,13 @@ type Difference = String;
 /// Compares so many cases of a kind. A difference is told with the number of its case.
 type Kind = fn(seed: u64, cases: u64) -> Result<Vec<Tally>, (u64, Difference)>;
 
-/// The kinds, each with its share of a hundred cases.
+/// The kinds, each with its share of a hundred cases: a verdict takes twenty times as long as a call.
 const KINDS: [(&str, u64, Kind); 5] = [
     ("verdicts", 15, verdicts::compare),
     ("saves", 10, saves::compare),
-    ("loads", 20, loads::compare),
-    ("calls", 30, calls::compare),
-    ("words", 25, words::compare),
+    ("loads", 15, loads::compare),
+    ("calls", 40, calls::compare),
+    ("words", 20, words::compare),
 ];
 
 /// From so many cases on, every answer has to be met.
