@@ -1,4 +1,4 @@
-//! Links the proved library, target/staticlib/libbench.a, which `rt check bench` builds.
+//! Links the proved library, target/staticlib/libbench.a, which `rt staticlib bench` builds.
 
 use std::path::Path;
 

@@ -136,7 +136,7 @@ fn every_length(draw: &mut Draw, round: u64) -> Vec<u32> {
     if draw.once_in(4) {
         row.fill_with(|| any_number(draw));
     }
-    if draw.once_in(400) {
+    if draw.once_in(100) {
         return row.into_iter().cycle().take(draw.of(&FAR)).collect();
     }
     row.truncate(length);
