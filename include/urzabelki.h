@@ -51,7 +51,7 @@ extern "C" {
 /* The number of the refusal, as the paper numbers them; 0 where the call was not refused. */
 static inline uint32_t urzabelki_refusal(uint64_t answer) { return (uint32_t)(answer >> 40); }
 
-/* The kind of an answer, where there is more than one. */
+/* The kind of an answer, where there is more than one; 0 otherwise, and for a refusal. */
 static inline uint32_t urzabelki_kind(uint64_t answer) { return (uint32_t)(answer >> 32) & 0xff; }
 
 /* The place, the length or the count that is answered; of a refusal the train or the place that it names, 64 where it names none. */
