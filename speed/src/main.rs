@@ -1,0 +1,31 @@
+//! What the proved calls take, beside hand-written Rust of the same algorithm on the same data and buffers, beside a walk
+//! through the ticks, and beside what the processor's divisions take alone. `./urzabelki speed` builds and runs it.
+
+mod by_hand;
+mod clock;
+mod data;
+mod dispatchers;
+mod floor;
+mod print;
+mod proved;
+mod tables;
+mod walk;
+mod walks;
+
+/// What the machine says of its processor.
+fn processor() -> String {
+    let told = std::fs::read_to_string("/proc/cpuinfo").unwrap_or_default();
+    let name = told.lines().find_map(|line| line.strip_prefix("model name")?.split_once(": "));
+    name.map_or("a processor that has no name".into(), |(_, name)| name.into())
+}
+
+fn main() {
+    println!("{}; the best of {} batches of at least {:?}, taken in turn", processor(), clock::BATCHES, clock::BATCH);
+    println!("Rust: opt-level 3, one codegen unit, no link-time optimisation across the two; all answers and memory are equal");
+    let verdicts = tables::on_rows();
+    tables::on_files_and_lines();
+    tables::kept();
+    dispatchers::all();
+    walks::all();
+    floor::all(&verdicts);
+}

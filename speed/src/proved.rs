@@ -1,0 +1,58 @@
+//! The proved calls, as include/urzabelki.h declares them, behind functions that any Rust program may call. A slice carries
+//! its own length and an array its size, which is all that the header asks; and what is written is lent to nobody else.
+
+pub const FIGURES: usize = 5;
+pub const WORDS: usize = 259;
+
+pub type Figures = [u64; FIGURES];
+pub type Words = [u32; WORDS];
+
+mod header {
+    extern "C" {
+        pub fn urzabelki_judge(row: *const u32, length: usize, figures: *mut u64) -> u64;
+        pub fn urzabelki_judge_stored(bytes: *const u8, length: usize, figures: *mut u64) -> u64;
+        pub fn urzabelki_line(row: *const u32, length: usize, text: *mut u8, room: usize) -> u64;
+        pub fn urzabelki_save(row: *const u32, length: usize, bytes: *mut u8, room: usize) -> u64;
+        pub fn urzabelki_load(bytes: *const u8, length: usize, row: *mut u32, room: usize) -> u64;
+        pub fn urzabelki_fresh(words: *mut u32, count: u32);
+        pub fn urzabelki_admit(words: *mut u32, delay: u32, period: u32, duration: u32) -> u64;
+        pub fn urzabelki_withdraw(words: *mut u32, place: u32) -> u64;
+        pub fn urzabelki_step(words: *mut u32, count: u32) -> u64;
+    }
+}
+
+pub fn judge(row: &[u32], figures: &mut Figures) -> u64 {
+    unsafe { header::urzabelki_judge(row.as_ptr(), row.len(), figures.as_mut_ptr()) }
+}
+
+pub fn judge_stored(bytes: &[u8], figures: &mut Figures) -> u64 {
+    unsafe { header::urzabelki_judge_stored(bytes.as_ptr(), bytes.len(), figures.as_mut_ptr()) }
+}
+
+pub fn line(row: &[u32], text: &mut [u8]) -> u64 {
+    unsafe { header::urzabelki_line(row.as_ptr(), row.len(), text.as_mut_ptr(), text.len()) }
+}
+
+pub fn save(row: &[u32], bytes: &mut [u8]) -> u64 {
+    unsafe { header::urzabelki_save(row.as_ptr(), row.len(), bytes.as_mut_ptr(), bytes.len()) }
+}
+
+pub fn load(bytes: &[u8], row: &mut [u32]) -> u64 {
+    unsafe { header::urzabelki_load(bytes.as_ptr(), bytes.len(), row.as_mut_ptr(), row.len()) }
+}
+
+pub fn fresh(words: &mut Words, count: u32) {
+    unsafe { header::urzabelki_fresh(words.as_mut_ptr(), count) }
+}
+
+pub fn admit(words: &mut Words, delay: u32, period: u32, duration: u32) -> u64 {
+    unsafe { header::urzabelki_admit(words.as_mut_ptr(), delay, period, duration) }
+}
+
+pub fn withdraw(words: &mut Words, place: u32) -> u64 {
+    unsafe { header::urzabelki_withdraw(words.as_mut_ptr(), place) }
+}
+
+pub fn step(words: &mut Words, count: u32) -> u64 {
+    unsafe { header::urzabelki_step(words.as_mut_ptr(), count) }
+}
