@@ -1,4 +1,4 @@
--- Which train or place a refusal names: one below 64, or 64 where it names none; and the longest line of a verdict.
+-- Which train or place a refusal names: one below 64, or 64 where it names none.
 -- Core: named-test, named-then, named-each. The rest follows the text of the checks.
 -- Assumes nothing.
 use Prim.Native.Nat.{ℕ, suc, _+_, _*_, _%_, _<_, _≤_}
