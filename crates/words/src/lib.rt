@@ -77,6 +77,22 @@ fn lowest(words: &[u32; LENGTH], sought: Sought) -> usize
     place
 }
 
+// The lowest place whose train starts at this count, or PLACES where none does. It is `lowest` in a loop of its own, in which
+// what is sought is known, so that a step pays for nothing else.
+fn lowest_due(words: &[u32; LENGTH], count: u32) -> usize
+    ensures { λ r. ⌜ r ≡ lowest (isSought (Sought.Due count)) (placesIn (now (words .entry))) ⌝ }
+{
+    let mut place: usize = 0;
+    while place < Dispatcher::PLACES {
+        let here = place_at(words, place);
+        if here.is(Sought::Due(count)) {
+            return place;
+        }
+        place += 1;
+    }
+    place
+}
+
 fn put_four(words: &mut [u32; LENGTH], at: usize, first: u32, second: u32, third: u32, fourth: u32)
     requires { ⌜ at + 4 ≤ wordCount ⌝ }
     ensures { λ _. ⌜ now (words .exit) ≡ sets (now (words .entry)) at (first ∷ second ∷ third ∷ fourth ∷ []) ⌝ }
@@ -201,7 +217,7 @@ pub fn step(words: &mut [u32; LENGTH], count: u32) -> Tick
         put_tail(words, count, place, left - 1);
         return Tick::GoesOn(running);
     }
-    let due = lowest(words, Sought::Due(count));
+    let due = lowest_due(words, count);
     if Dispatcher::PLACES <= due {
         put_tail(words, count, place, left);
         return Tick::Idle;

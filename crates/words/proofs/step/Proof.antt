@@ -45,8 +45,8 @@ returns-2 c =
     let on = steps-on _ _ (right (test .before .before .before)) _ (test .if2 .taken) (c .put-tail .ensures) in
     (ap tick.GoesOn (wide .wide .ensures) ∙ on .0, on .1)
 
-lowest-requires : tie.Need-lowest-requires
-lowest-requires c κs = search needs
+lowest-due-requires : tie.Need-lowest-due-requires
+lowest-due-requires c κs = search needs
 
 put-tail-requires-2 : tie.Need-put-tail-requires-2
 put-tail-requires-2 c κs = search needs
@@ -55,7 +55,7 @@ returns-3 : tie.Need-returns-3
 returns-3 c =
     let look = c .before .before .before in
     let test = look .before .before in
-    steps-none _ _ (right (test .before .before .before)) (test .if2 .left) _ (look .lowest .ensures) _ (c .before .before .if3 .taken)
+    steps-none _ _ (right (test .before .before .before)) (test .if2 .left) _ (look .lowest-due .ensures) _ (c .before .before .if3 .taken)
     (c .put-tail2 .ensures)
 
 start-requires : tie.Need-start-requires
@@ -65,7 +65,7 @@ returns-4 : tie.Need-returns-4
 returns-4 c =
     let look = c .before .before .before in
     let test = look .before .before in
-    steps-starts _ _ (right (test .before .before .before)) (test .if2 .left) _ (look .lowest .ensures) _ (c .before .before .if3 .left)
+    steps-starts _ _ (right (test .before .before .before)) (test .if2 .left) _ (look .lowest-due .ensures) _ (c .before .before .if3 .left)
     (c .start .ensures)
 
 pub step-spec : {M : Type 1} → statement M
@@ -81,7 +81,7 @@ step-spec =
     sub-put-tail
     put-tail-requires
     returns-2
-    lowest-requires
+    lowest-due-requires
     put-tail-requires-2
     returns-3
     start-requires
