@@ -1,6 +1,6 @@
 //! The verdict on a table beside the walks of walk.rs, for tables whose ticks can be walked through at all.
 
-use crate::clock::{calls, race};
+use crate::clock::{calls, race, Batch};
 use crate::data::{self, FIGURE};
 use crate::print;
 use crate::proved::{self, FIGURES};
@@ -24,9 +24,9 @@ fn table(name: &str, trains: &[[u32; 3]]) {
     assert_eq!(judged(1), 0, "{name} is accepted");
     let mut stepped = calls(|| u64::from(walk::tick_by_tick(black_box(trains), end).is_some()));
     let mut marked = calls(|| u64::from(walk::mark(black_box(trains), black_box(&mut lent))));
-    let [by_tick] = race([&mut stepped]);
-    let [proved, by_train] = race([&mut judged, &mut marked]);
-    print::row(name, &[ticks(trains), print::time(proved), print::time(by_tick), print::time(by_train)]);
+    let batches: [Batch; 3] = [&mut judged, &mut stepped, &mut marked];
+    let times = batches.map(|batch| race([batch])[0]);
+    print::row(name, &[&[ticks(trains)][..], &times.map(print::time)].concat());
 }
 
 fn ticks(trains: &[[u32; 3]]) -> String {
