@@ -20,7 +20,7 @@ ghost use Rattle.file.specs.Answer.{fileVerdict};
 ghost use Rattle.line.specs.Answer.{written, writtenIn};
 ghost use Rattle.stored.specs.Answer.{saved, savedIn, loaded, loadedIn};
 ghost use Rattle.words.specs.Answer.{admissionIn, withdrawalIn, steppingIn, freshIn, admittedIn, withdrewIn, steppedIn};
-ghost use Rattle.bench.specs.Answer.{code, Fits, refusedParts, verdictParts, verdictCode, writtenParts, writtenCode, savedParts, savedCode, loadedParts, loadedCode, admissionParts, admissionCode, withdrawalParts, withdrawalCode, tickParts, tickCode, figureCount, figuresIn};
+ghost use Rattle.bench.specs.Answer.{code, Fits, plain, refusedParts, verdictParts, verdictCode, writtenParts, writtenCode, savedParts, savedCode, loadedParts, loadedCode, admissionParts, admissionCode, withdrawalParts, withdrawalCode, tickParts, tickCode, figureCount, figuresIn};
 
 // Where L stands among the figures of a verdict.
 const MULTIPLE: usize = 0;
@@ -86,6 +86,14 @@ fn refused(refusal: Refusal) -> u64
     code(refusal.number(), ONLY, refusal.place())
 }
 
+// The number of a call that was done, and has one kind of answer.
+fn done(value: usize) -> u64
+    requires { ⌜ Fits (plain 0 value) ⌝ }
+    ensures { λ r. ⌜ r ≡ code (plain 0 value) ⌝ }
+{
+    code(NOT_REFUSED, ONLY, value)
+}
+
 // Writes L and the division count.
 fn put_figures(figures: &mut [u64; FIGURES], shown: Figures)
     ensures { λ _. ⌜ now (figures .exit) ≡ sets (now (figures .entry)) 0 (shown .multiple ∷ shown .divisions ∷ []) ⌝ }
@@ -129,7 +137,7 @@ fn hand_written(written: Written) -> u64
     ensures { λ r. ⌜ r ≡ writtenCode written ⌝ }
 {
     match written {
-        Written::Length(length) => code(NOT_REFUSED, ONLY, length),
+        Written::Length(length) => done(length),
         Written::Refused(refusal) => refused(refusal),
     }
 }
@@ -140,7 +148,7 @@ fn hand_saved(saved: Saved) -> u64
     ensures { λ r. ⌜ r ≡ savedCode saved ⌝ }
 {
     match saved {
-        Saved::Length(length) => code(NOT_REFUSED, ONLY, length),
+        Saved::Length(length) => done(length),
         Saved::Refused(refusal) => refused(refusal),
     }
 }
@@ -151,7 +159,7 @@ fn hand_loaded(loaded: Loaded) -> u64
     ensures { λ r. ⌜ r ≡ loadedCode loaded ⌝ }
 {
     match loaded {
-        Loaded::Count(count) => code(NOT_REFUSED, ONLY, count),
+        Loaded::Count(count) => done(count),
         Loaded::Refused(refusal) => refused(refusal),
     }
 }
@@ -169,7 +177,7 @@ fn hand_admission(admission: Admission) -> u64
     ensures { λ r. ⌜ r ≡ admissionCode admission ⌝ }
 {
     match admission {
-        Admission::At(place) => code(NOT_REFUSED, ONLY, place),
+        Admission::At(place) => done(place),
         Admission::Refused(refusal) => refused(refusal),
     }
 }
@@ -180,7 +188,7 @@ fn hand_withdrawal(withdrawal: Withdrawal) -> u64
     ensures { λ r. ⌜ r ≡ withdrawalCode withdrawal ⌝ }
 {
     match withdrawal {
-        Withdrawal::Withdrawn => code(NOT_REFUSED, ONLY, 0),
+        Withdrawal::Withdrawn => done(0),
         Withdrawal::Refused(refusal) => refused(refusal),
     }
 }

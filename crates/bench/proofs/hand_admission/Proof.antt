@@ -9,8 +9,8 @@ use Rattle.bench.proofs.hand_admission.Tie as tie
 enum-known-admission : tie.Need-enum-known-admission
 enum-known-admission c = search needs
 
-code-requires : tie.Need-code-requires
-code-requires c κs = subst (λ v. Fits (admissionParts v)) (c .before .admission .given .1) (c .before .before .before .pre)
+done-requires : tie.Need-done-requires
+done-requires c κs = subst (λ v. Fits (admissionParts v)) (c .before .admission .given .1) (c .before .before .before .pre)
 
 enum-known-admission-2 : tie.Need-enum-known-admission-2
 enum-known-admission-2 c = search needs
@@ -19,7 +19,7 @@ refused-requires : tie.Need-refused-requires
 refused-requires c κs = subst (λ v. Fits (admissionParts v)) (c .before .admission2 .given .1) (c .before .before .before .pre)
 
 returns : tie.Need-returns
-returns c = c .code .ensures ∙ ap admissionCode (sym (c .before .before .admission .given .1))
+returns c = c .done .ensures ∙ ap admissionCode (sym (c .before .before .admission .given .1))
 
 returns-2 : tie.Need-returns-2
 returns-2 c = c .refused .ensures ∙ ap admissionCode (sym (c .before .before .admission2 .given .1))
@@ -29,7 +29,7 @@ hand-admission-spec =
     tie.close
     (tie.spec
     enum-known-admission
-    code-requires
+    done-requires
     enum-known-admission-2
     refused-requires
     returns

@@ -9,8 +9,8 @@ use Rattle.bench.proofs.hand_loaded.Tie as tie
 enum-known-loaded : tie.Need-enum-known-loaded
 enum-known-loaded c = search needs
 
-code-requires : tie.Need-code-requires
-code-requires c κs = subst (λ v. Fits (loadedParts v)) (c .before .loaded .given .1) (c .before .before .before .pre)
+done-requires : tie.Need-done-requires
+done-requires c κs = subst (λ v. Fits (loadedParts v)) (c .before .loaded .given .1) (c .before .before .before .pre)
 
 enum-known-loaded-2 : tie.Need-enum-known-loaded-2
 enum-known-loaded-2 c = search needs
@@ -19,7 +19,7 @@ refused-requires : tie.Need-refused-requires
 refused-requires c κs = subst (λ v. Fits (loadedParts v)) (c .before .loaded2 .given .1) (c .before .before .before .pre)
 
 returns : tie.Need-returns
-returns c = c .code .ensures ∙ ap loadedCode (sym (c .before .before .loaded .given .1))
+returns c = c .done .ensures ∙ ap loadedCode (sym (c .before .before .loaded .given .1))
 
 returns-2 : tie.Need-returns-2
 returns-2 c = c .refused .ensures ∙ ap loadedCode (sym (c .before .before .loaded2 .given .1))
@@ -29,7 +29,7 @@ hand-loaded-spec =
     tie.close
     (tie.spec
     enum-known-loaded
-    code-requires
+    done-requires
     enum-known-loaded-2
     refused-requires
     returns

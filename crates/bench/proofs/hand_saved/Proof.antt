@@ -9,8 +9,8 @@ use Rattle.bench.proofs.hand_saved.Tie as tie
 enum-known-saved : tie.Need-enum-known-saved
 enum-known-saved c = search needs
 
-code-requires : tie.Need-code-requires
-code-requires c κs = subst (λ v. Fits (savedParts v)) (c .before .saved .given .1) (c .before .before .before .pre)
+done-requires : tie.Need-done-requires
+done-requires c κs = subst (λ v. Fits (savedParts v)) (c .before .saved .given .1) (c .before .before .before .pre)
 
 enum-known-saved-2 : tie.Need-enum-known-saved-2
 enum-known-saved-2 c = search needs
@@ -19,7 +19,7 @@ refused-requires : tie.Need-refused-requires
 refused-requires c κs = subst (λ v. Fits (savedParts v)) (c .before .saved2 .given .1) (c .before .before .before .pre)
 
 returns : tie.Need-returns
-returns c = c .code .ensures ∙ ap savedCode (sym (c .before .before .saved .given .1))
+returns c = c .done .ensures ∙ ap savedCode (sym (c .before .before .saved .given .1))
 
 returns-2 : tie.Need-returns-2
 returns-2 c = c .refused .ensures ∙ ap savedCode (sym (c .before .before .saved2 .given .1))
@@ -27,4 +27,4 @@ returns-2 c = c .refused .ensures ∙ ap savedCode (sym (c .before .before .save
 pub hand-saved-spec : {M : Type 1} → statement M
 hand-saved-spec =
     tie.close
-    (tie.spec enum-known-saved code-requires enum-known-saved-2 refused-requires returns returns-2)
+    (tie.spec enum-known-saved done-requires enum-known-saved-2 refused-requires returns returns-2)

@@ -9,8 +9,8 @@ use Rattle.bench.proofs.hand_withdrawal.Tie as tie
 enum-told : tie.Need-enum-told
 enum-told c = search needs
 
-code-requires : tie.Need-code-requires
-code-requires c κs = search needs
+done-requires : tie.Need-done-requires
+done-requires c κs = search needs
 
 enum-known-withdrawal : tie.Need-enum-known-withdrawal
 enum-known-withdrawal c = search needs
@@ -19,7 +19,7 @@ refused-requires : tie.Need-refused-requires
 refused-requires c κs = subst (λ v. Fits (withdrawalParts v)) (c .before .withdrawal .given .1) (c .before .before .before .pre)
 
 returns : tie.Need-returns
-returns c = c .code .ensures ∙ ap withdrawalCode (sym (c .before .enum-told .given .1))
+returns c = c .done .ensures ∙ ap withdrawalCode (sym (c .before .enum-told .given .1))
 
 returns-2 : tie.Need-returns-2
 returns-2 c = c .refused .ensures ∙ ap withdrawalCode (sym (c .before .before .withdrawal .given .1))
@@ -27,4 +27,4 @@ returns-2 c = c .refused .ensures ∙ ap withdrawalCode (sym (c .before .before 
 pub hand-withdrawal-spec : {M : Type 1} → statement M
 hand-withdrawal-spec =
     tie.close
-    (tie.spec enum-told code-requires enum-known-withdrawal refused-requires returns returns-2)
+    (tie.spec enum-told done-requires enum-known-withdrawal refused-requires returns returns-2)

@@ -9,8 +9,8 @@ use Rattle.bench.proofs.hand_written.Tie as tie
 enum-known-written : tie.Need-enum-known-written
 enum-known-written c = search needs
 
-code-requires : tie.Need-code-requires
-code-requires c κs = subst (λ v. Fits (writtenParts v)) (c .before .written .given .1) (c .before .before .before .pre)
+done-requires : tie.Need-done-requires
+done-requires c κs = subst (λ v. Fits (writtenParts v)) (c .before .written .given .1) (c .before .before .before .pre)
 
 enum-known-written-2 : tie.Need-enum-known-written-2
 enum-known-written-2 c = search needs
@@ -19,7 +19,7 @@ refused-requires : tie.Need-refused-requires
 refused-requires c κs = subst (λ v. Fits (writtenParts v)) (c .before .written2 .given .1) (c .before .before .before .pre)
 
 returns : tie.Need-returns
-returns c = c .code .ensures ∙ ap writtenCode (sym (c .before .before .written .given .1))
+returns c = c .done .ensures ∙ ap writtenCode (sym (c .before .before .written .given .1))
 
 returns-2 : tie.Need-returns-2
 returns-2 c = c .refused .ensures ∙ ap writtenCode (sym (c .before .before .written2 .given .1))
@@ -29,7 +29,7 @@ hand-written-spec =
     tie.close
     (tie.spec
     enum-known-written
-    code-requires
+    done-requires
     enum-known-written-2
     refused-requires
     returns
