@@ -6,8 +6,17 @@ use std::time::{Duration, Instant};
 
 /// How long a batch takes at least, how many there are, and when there are enough for calls that are long themselves.
 pub const BATCH: Duration = Duration::from_micros(250);
-pub const BATCHES: usize = 400;
+const BATCHES: usize = 400;
 pub const ENOUGH: Duration = Duration::from_millis(1200);
+
+/// The batches of this run: with the word `check` one is enough, to see that all answer alike.
+pub fn batches() -> usize {
+    if std::env::args().any(|word| word == "check") {
+        1
+    } else {
+        BATCHES
+    }
+}
 
 /// Makes so many calls, and hands back the sum of their answers.
 pub type Batch<'a> = &'a mut dyn FnMut(u64) -> u64;
@@ -40,7 +49,7 @@ pub fn race<const N: usize>(mut all: [Batch; N]) -> [f64; N] {
     let count = batch_length(&mut all);
     let mut best = [Duration::MAX; N];
     let begin = Instant::now();
-    for _ in 0..BATCHES {
+    for _ in 0..batches() {
         let results = all.each_mut().map(|batch| timed(batch, count));
         for (best, (time, sum)) in best.iter_mut().zip(results) {
             assert_eq!(sum, results[0].1, "all answer alike in each batch");

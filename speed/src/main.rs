@@ -1,5 +1,6 @@
 //! What the proved calls take, beside hand-written Rust of the same algorithm on the same data and buffers, beside a walk
-//! through the ticks, and beside what the processor's divisions take alone. `./urzabelki speed` builds and runs it.
+//! through the ticks, and beside what the processor's divisions take alone. `./urzabelki speed` builds and runs it; with
+//! the word `check` it only sees that all answer alike.
 
 mod by_hand;
 mod clock;
@@ -20,7 +21,7 @@ fn processor() -> String {
 }
 
 fn main() {
-    println!("{}; the best of {} batches of at least {:?}, taken in turn", processor(), clock::BATCHES, clock::BATCH);
+    println!("{}; the best of {} batches of at least {:?}, taken in turn", processor(), clock::batches(), clock::BATCH);
     println!("Rust: opt-level 3, one codegen unit, no link-time optimisation across the two; all answers and memory are equal");
     let verdicts = tables::on_rows();
     tables::on_files_and_lines();
