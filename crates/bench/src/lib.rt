@@ -3,7 +3,6 @@
 use dispatcher::Admission;
 use dispatcher::Tick;
 use dispatcher::Withdrawal;
-use judge::Figures;
 use judge::Meeting;
 use judge::Verdict;
 use line::Written;
@@ -94,12 +93,13 @@ fn done(value: usize) -> u64
     code(NOT_REFUSED, ONLY, value)
 }
 
-// Writes L and the division count.
-fn put_figures(figures: &mut [u64; FIGURES], shown: Figures)
-    ensures { λ _. ⌜ now (figures .exit) ≡ sets (now (figures .entry)) 0 (shown .multiple ∷ shown .divisions ∷ []) ⌝ }
+// Writes L and the division count. They come as two numbers: as one record the compiler would read them before it knows the kind of
+// the verdict, and a refusal would wait for that.
+fn put_figures(figures: &mut [u64; FIGURES], multiple: u32, divisions: u32)
+    ensures { λ _. ⌜ now (figures .exit) ≡ sets (now (figures .entry)) 0 (multiple ∷ divisions ∷ []) ⌝ }
 {
-    figures[MULTIPLE] = shown.multiple as u64;
-    figures[DIVISIONS] = shown.divisions as u64;
+    figures[MULTIPLE] = multiple as u64;
+    figures[DIVISIONS] = divisions as u64;
 }
 
 // Writes the trains of a collision and its tick.
@@ -119,11 +119,11 @@ fn hand_verdict(verdict: Verdict, figures: &mut [u64; FIGURES]) -> u64
 {
     match verdict {
         Verdict::Accepted(shown) => {
-            put_figures(figures, shown);
+            put_figures(figures, shown.multiple, shown.divisions);
             code(NOT_REFUSED, ACCEPTED, 0)
         }
         Verdict::Collide(meeting, shown) => {
-            put_figures(figures, shown);
+            put_figures(figures, shown.multiple, shown.divisions);
             put_meeting(figures, meeting);
             code(NOT_REFUSED, COLLIDE, 0)
         }
