@@ -1,9 +1,9 @@
 /*
  * Urzabelki for programs in other languages: the proved calls as C functions, in libbench.a.
  *
- * No function asks anything of its arguments but that a pointer points to as many elements as the length beside it says (or as
- * the array's size says), and that memory which is written overlaps no other argument. Any length, 0 included, and any content
- * is answered. No function allocates, and none keeps anything from one call to the next.
+ * No function asks anything of its arguments but that a pointer is not null, even where the length beside it is 0, that it points
+ * to as many elements as that length or the array's size says, and that memory which is written overlaps no other argument. Any
+ * length and any content is answered. No function allocates, and none keeps anything from one call to the next.
  *
  * Every function but urzabelki_fresh hands back one number, which holds three: urzabelki_refusal, urzabelki_kind and
  * urzabelki_value below take it apart. A refused call writes nothing.
