@@ -188,6 +188,3 @@ module _ (ws : List ℕ) (all : length ws ≡ wordCount) where
           last = tail-read 0 (omega arith) i;
           run = record { place = tail-read 1 (omega arith) i; left = tail-read 2 (omega arith) i };
         }
-
-    pub tail-over-length : length (tailOver ws d) ≡ wordCount
-    tail-over-length = length-sets ws lastAt (tailWords d) ∙ all
