@@ -86,7 +86,7 @@ sees() { # COMMAND WORDS
 }
 sees "./urzabelki verdict $stored" 'Trains 0 and 1'
 sees "./urzabelki verdict $stored" '11/13 ms'
-sees './urzabelki judge 0 3 10/3' "$(sed -n 's|.* = 4, */\* \(.*\) \*/$|\1|p' include/urzabelki.h | head -n 1)"
+sees './urzabelki judge 0 3 10/3' "$(sed -n 's|^ *URZABELKI_REFUSAL_[A-Z_]* = 4, */\* \(.*\) \*/$|\1|p' include/urzabelki.h)"
 sees './urzabelki judge 0 1 1' 'Accepted'
 ! seen "./urzabelki verdict $stored | cat" | grep -q 'Trains' || wrong "words go to a pipe"
 
