@@ -1,7 +1,7 @@
 -- What each verdict means: the theorems of specs/Promises.antt.
 -- Core: view, the three ways that a verdict comes about. The rest follows from it.
 -- Assumes nothing.
-use Prim.Native.Nat.{ℕ, _*_, _<_, _≤_}
+use Prim.Native.Nat.{ℕ, _+_, _*_, _<_, _≤_}
 use mathlib.Core.Path.{_≡_, refl, sym, ap, subst, _∙_}
 use mathlib.Core.Bool.{false}
 use mathlib.Core.Logic.{_↔_, _⊎_, inl, inr, ⊎-elim}
@@ -131,7 +131,7 @@ module _ (row : List ℕ) where
   earliest-tick i j e f =
       let li = limits e i (omega (arith, f .positions .0, f .positions .1)) in
       let lj = limits e j (f .positions .1) in
-      let w = earliest-exists (at i) (at j) li lj .1 (collides-iff (at i) (at j) (li .strict) (lj .strict) .1 (f .collides)) in
+      let w = earliest-exists (at i) (at j) li lj .1 (f .collides) in
       earliest-at (at i) (at j) li lj (tickOf (earliest (at i) (at j))) .0 (w .1 ∙ ap (λ c. At (tickOf c)) (sym (w .1)))
 
   -- ---- The theorems
@@ -183,9 +183,6 @@ module _ (row : List ℕ) where
           let w = first .collides in
           let smaller : i < length (trains row) = omega (arith, first .positions .0, first .positions .1) in
           absurd (s (w .0) i j smaller (first .positions .1) (λ same. omega (arith, first .positions .0)) (w .1 .0) (w .1 .1))
-
-  pub accept-exactly : refusal row ≡ Passed → ((L d : ℕ) × (paper (verdict row) ≡ accept L d)) ↔ Schedulable (trains row)
-  accept-exactly e = (λ w. accept-schedulable .0 w .1, λ s. accept-schedulable .1 (e, s))
 
   -- there is one first pair
   first-only : (p q : Places) → FirstPair (trains row) p → FirstPair (trains row) q → p ≡ q
@@ -291,23 +288,45 @@ module _ (row : List ℕ) where
       let others = total-few e ps (λ q m. all q (inr m)) in
       omega arith
 
-  few : refusal row ≡ Passed → length (pairs (length (trains row))) ≤ 2016
+  pub accept-divisions-per-pair : (L d : ℕ) → paper (verdict row) ≡ accept L d → d ≤ 33 * length (pairs (length (trains row)))
+  accept-divisions-per-pair L d h =
+      let e = accept-schedulable .0 (L, d, h) .0 in
+      omega (arith, accept-figures L d h .1, total-few e (pairs (length (trains row))) (λ p m. pairs-all (length (trains row)) p .0 m))
+
+  module _ (i j t L d : ℕ) (h : paper (verdict row) ≡ collide i j t L d) (s : SummedTo (trains row) (record { first = i; second = j }) d) where
+    -- the pairs that are summed
+    summed : List Places
+    summed = s .before ++ record { first = i; second = j } ∷ []
+
+    summed-whole : pairs (length (trains row)) ≡ summed ++ s .behind
+    unfolding summed
+    summed-whole = s .in-order ∙ sym (append-snoc (s .before) (record { first = i; second = j }) (s .behind))
+
+    summed-count : length summed ≡ length (s .before) + 1
+    unfolding summed
+    summed-count = length-append (s .before) (record { first = i; second = j } ∷ [])
+
+    pub collide-divisions-per-pair : d ≤ 33 * (length (s .before) + 1)
+    unfolding summed
+    collide-divisions-per-pair =
+        let e = collide-exactly i j t .0 (L, d, h) .0 in
+        let bound = total-few e summed (λ q m. pairs-all (length (trains row)) q .0 (subst (In q) (sym summed-whole) (in-left q summed (s .behind) m))) in
+        omega (arith, s .sum, bound, summed-count)
+
+    summed-few : length (s .before) + 1 ≤ length (pairs (length (trains row)))
+    summed-few = omega (arith, summed-count, ap length summed-whole, length-append summed (s .behind))
+
+  few : refusal row ≡ Passed → length (pairs (length (trains row))) ≤ 2_016
   few e = pairs-few (length (trains row)) (omega (arith, trains-length row, passed-few row e))
 
   pub accept-divisions : (L d : ℕ) → paper (verdict row) ≡ accept L d → d ≤ 66_528
-  accept-divisions L d h =
-      let e = accept-schedulable .0 (L, d, h) .0 in
-      omega (arith, accept-figures L d h .1, few e, total-few e (pairs (length (trains row))) (λ p m. pairs-all (length (trains row)) p .0 m))
+  accept-divisions L d h = omega (arith, few (accept-schedulable .0 (L, d, h) .0), accept-divisions-per-pair L d h)
 
   pub collide-divisions : (i j t L d : ℕ) → paper (verdict row) ≡ collide i j t L d → d ≤ 66_528
   collide-divisions i j t L d h =
-      let e = collide-exactly i j t .0 (L, d, h) .0 in
-      let p : Places = record { first = i; second = j } in
       let s = collide-figures i j t L d h .1 in
-      let front : List Places = s .before ++ p ∷ [] in
-      let whole : pairs (length (trains row)) ≡ front ++ s .behind = s .in-order ∙ sym (append-snoc (s .before) p (s .behind)) in
-      let bound = total-few e front (λ q m. pairs-all (length (trains row)) q .0 (subst (In q) (sym whole) (in-left q front (s .behind) m))) in
-      omega (arith, s .sum, few e, bound, ap length whole, length-append front (s .behind))
+      let passed = collide-exactly i j t .0 (L, d, h) .0 in
+      omega (arith, few passed, summed-few i j t L d h s, collide-divisions-per-pair i j t L d h s)
 
 pub verdict-same : (row row′ : List ℕ) → SameRow row row′ → verdict row ≡ verdict row′
 verdict-same row row′ same = sym (verdict-read row) ∙ ap verdictRead (reading-same row row′ same) ∙ verdict-read row′

@@ -2,6 +2,7 @@
 -- Assumes nothing.
 use Rattle.judge.specs.Promises.{Promises}
 use Rattle.judge.proofs.Ordered as ordered
+use Rattle.judge.proofs.Walk as walk
 use Rattle.judge.proofs.Meaning as meaning
 
 pub promises : Promises
@@ -9,13 +10,16 @@ promises =
     record {
       pairs-all = ordered.pairs-all;
       pairs-before = ordered.pairs-before;
+      pairs-count = walk.pairs-count;
+      pairs-most = walk.pairs-most;
       refuse-exactly = meaning.refuse-exactly;
       refuse-only = meaning.refuse-only;
-      accept-exactly = meaning.accept-exactly;
       accept-schedulable = meaning.accept-schedulable;
       collide-exactly = meaning.collide-exactly;
       accept-figures = meaning.accept-figures;
       collide-figures = meaning.collide-figures;
+      accept-divisions-per-pair = meaning.accept-divisions-per-pair;
+      collide-divisions-per-pair = meaning.collide-divisions-per-pair;
       accept-divisions = meaning.accept-divisions;
       collide-divisions = meaning.collide-divisions;
       verdict-same = meaning.verdict-same;
