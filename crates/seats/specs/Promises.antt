@@ -10,7 +10,7 @@ use Rattle.dispatcher.specs.Answer.{fresh}
 use Rattle.dispatcher.specs.Played.{logOf}
 
 pub record Promises : Type 0 where
-  -- D7. Admitting an accepted table in order into a fresh dispatcher, phases as delays, succeeds; place and position then agree.
+  -- Admitting an accepted table in order into a fresh dispatcher, phases as delays, succeeds; place and position then agree.
   pub accepted-seated :
       (row : List ℕ) (L d : ℕ) → paper (verdict row) ≡ accept L d →
       (count : ℕ) → logOf (fresh count) (admissions (trains row)) ≡ seated 0 (trains row)

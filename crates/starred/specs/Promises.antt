@@ -12,7 +12,7 @@ use Rattle.dispatcher.specs.Played.{logOf}
 use Rattle.starred.specs.Sheet.{Line, sheet, thirteenths, thirteenthsBytes, paragraph, answers}
 
 pub record Promises : Type 0 where
-  -- V7. The starred rows of the bench sheet, one list, one theorem: the verdict on every row is the printed one.
+  -- The starred rows of the bench sheet, one list, one theorem: the verdict on every row is the printed one.
   pub sheet-judged : map (λ (line : Line). paper (verdict (line .row))) sheet ≡ map (λ (line : Line). line .shown) sheet
   -- The 36/13 table is stored in these 55 bytes; given them, the verdict is `accept 13 1`.
   pub sheet-stored :
