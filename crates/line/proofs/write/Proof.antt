@@ -76,7 +76,7 @@ returns-3 c =
     let number = place .before in
     let matched = number .before .before in
     wrote-line (matched .before .before .before .args .verdict) _ _ _ _ _ refl (k .line-of-two2 .ensures)
-    (refuse-line _ _ _ _ (matched .verdict3 .given .1) (number .number .ensures) (place .place .ensures))
+    (refuse-line _ _ _ _ (matched .verdict3 .given .1) (number .number .ensures) (place .place .ensures .0))
 
 pub write-spec : {M : Type 1} → statement M
 write-spec =
