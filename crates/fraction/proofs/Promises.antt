@@ -22,6 +22,7 @@ promises =
       ticks-found = ticks.ticks-found;
       ticks-parts = ticks.ticks-parts;
       ticks-lowest = ticks.ticks-lowest;
+      above-is = order.above-is;
       above-ticks = order.above-ticks;
-      above-same = order.above-same;
+      above-same = order.above-alike;
     }

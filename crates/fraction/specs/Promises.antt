@@ -6,7 +6,7 @@ use mathlib.Core.Logic.{_↔_}
 use mathlib.Core.List.{List}
 use Rattle.fraction.specs.declared.Fraction.{Fraction}
 use Rattle.fraction.specs.declared.Ticks.the-variants.{Whole}
-use Rattle.fraction.specs.Value.{SameValue, LowestTerms, IsTicks, IsCommonMultiple}
+use Rattle.fraction.specs.Value.{SameValue, LowestTerms, Above, IsTicks, IsCommonMultiple}
 use Rattle.fraction.specs.Answer.{lowest, isLowest, above, wholeTicks, limited, commonMultiple, running}
 
 pub record Promises : Type 0 where
@@ -33,12 +33,14 @@ pub record Promises : Type 0 where
       wholeTicks (record { numerator = n; denominator = m }) (record { numerator = 1; denominator = l }) ≡ Whole (n * (l / m))
   -- Other terms of the same time make no difference to its ticks.
   pub ticks-lowest : (f tick : Fraction) → wholeTicks (lowest f) tick ≡ wholeTicks f tick
-  -- F4. One time is above another exactly when it is more ticks, whatever the tick; and other terms make no difference.
+  -- The test for above finds just that. One time is above another exactly when it is more ticks, whatever the tick; and other terms make no
+  -- difference.
+  pub above-is : (f h : Fraction) → (above f h ≡ true) ↔ Above f h
   pub above-ticks :
       (f h tick : Fraction) (j k : ℕ) →
       0 < f .denominator → 0 < h .denominator → 0 < tick .numerator → 0 < tick .denominator →
-      IsTicks f tick j → IsTicks h tick k → (above f h ≡ true) ↔ (k < j)
+      IsTicks f tick j → IsTicks h tick k → Above f h ↔ (k < j)
   pub above-same :
       (f f′ h h′ : Fraction) →
       0 < f .denominator → 0 < f′ .denominator → 0 < h .denominator → 0 < h′ .denominator →
-      SameValue f f′ → SameValue h h′ → above f h ≡ above f′ h′
+      SameValue f f′ → SameValue h h′ → Above f h ↔ Above f′ h′

@@ -1,6 +1,7 @@
 -- What the words mean, with no algorithm.
 --     SameValue f h               two fractions are one number
 --     LowestTerms f               f is in lowest terms
+--     Above f h                   f is a larger number than h
 --     IsTicks time tick k         the time is k ticks, with nothing lost
 --     AllDivide ds m              every number of the list divides m
 --     IsCommonMultiple ds l       l is the least common multiple of the list
@@ -18,6 +19,10 @@ SameValue f h = f .numerator * h .denominator ≡ h .numerator * f .denominator
 pub record LowestTerms (f : Fraction) : Type 0 where
   pub positive : 0 < f .denominator
   pub coprime : IsGcd (f .numerator) (f .denominator) 1
+
+-- n/m is above n'/m': n' · m < n · m'.
+abbrev pub Above : Fraction → Fraction → Type 0
+Above f h = h .numerator * f .denominator < f .numerator * h .denominator
 
 -- A time n/m is k ticks of a/b: k · m · a = n · b.
 abbrev pub IsTicks : (time tick : Fraction) → ℕ → Type 0

@@ -1,7 +1,7 @@
 // Fractions n/m of 32 bits: lowest terms, the order by cross products, the running least common multiple of
 // denominators, and the whole ticks of a time. No quotient stands in for a fraction; no call has a `requires`.
 ghost use mathlib.Core.Path.{_≡_};
-ghost use Rattle.fraction.specs.Answer.{lowest, isLowest, above, limited, included, wholeTicks};
+ghost use Rattle.fraction.specs.Answer.{lowest, isLowest, above, limit, limited, included, wholeTicks};
 ghost use Rattle.euclid.specs.Answer.{gcd, lcm};
 ghost use Prim.Native.Nat.{_*_, _/_};
 
@@ -103,7 +103,7 @@ impl Multiple {
 
     // The multiple of these denominators and one more. What has passed the limit stays above it.
     pub fn including(self, denominator: u32) -> Multiple
-        ensures { λ r. ⌜ r ≡ included self denominator ⌝ }
+        ensures { λ r. do ⌜ (r ≡ included self denominator) × ((← ⟦Multiple::LIMIT⟧ .entry) ≡ limit) ⌝ }
     {
         match self {
             Multiple::Above => Multiple::Above,

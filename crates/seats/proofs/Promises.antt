@@ -1,11 +1,12 @@
 -- The proof of what specs/Promises.antt states: an accepted table is schedulable, and the trains of a schedulable table are admitted.
 -- Assumes nothing.
 use Prim.Native.Nat.{ℕ, _≤_}
-use mathlib.Core.Path.{_≡_}
+use mathlib.Core.Path.{_≡_, ap}
 use mathlib.Core.List.{List}
 use native.Mathlib.Omega.{arith}
 use lib.ListN.{length}
 use Rattle.table.specs.Row.{trains}
+use Rattle.table.specs.Paper as table-paper
 use Rattle.table.proofs.Readings.{trains-length, passed-few}
 use Rattle.table.proofs.Promises as table
 use Rattle.judge.specs.Paper.{accept, paper}
@@ -24,7 +25,7 @@ accepted-seated :
 accepted-seated row L d accepted count =
     let so = judge.promises .accept-schedulable row .0 (L, d, accepted) in
     let few : length (trains row) ≤ placeCount = omega (arith, passed-few row (so .0), trains-length row) in
-    dispatcher.promises .all-seated count (trains row) few (λ i. table.promises .trains-limits row i (so .0))
+    dispatcher.promises .all-seated count (trains row) few (λ i. table.promises .trains-limits row i (ap table-paper.paper (so .0)))
     (λ i j l k f t both. so .1 t i j l k f (both .0) (both .1))
 
 pub promises : Promises

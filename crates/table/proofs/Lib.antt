@@ -7,6 +7,7 @@
 --     Ticking             times in ticks, and the loop that fills the table
 --     Limits              refusals 5 and 6 follow the order, and so all of a table's
 --     Readings            the whole reading, and what a table is that passes
+--     Numbers             outcomes in the paper's numbers
 --     Terms               the terms of the fractions make no difference
 --     Rows                trains that are written as a row
 pub mod Entries
@@ -17,6 +18,7 @@ pub mod RunningMultiple
 pub mod Ticking
 pub mod Limits
 pub mod Readings
+pub mod Numbers
 pub mod Terms
 pub mod Rows
 pub mod Promises

@@ -5,7 +5,6 @@ use Prim.Native.Nat.{ℕ, zero, suc, _*_, _<_, _≤_}
 use mathlib.Core.Path.{_≡_, refl, sym, ap, subst, _∙_}
 use mathlib.Core.Logic.{inl, inr}
 use mathlib.Core.List.{List, [], _∷_, _++_, map}
-use mathlib.Mathlib.Data.Bool.Basic.{eq-false-eq-not-eq-true}
 use native.Mathlib.Nat.{mul-pos}
 use native.Mathlib.Omega.{arith}
 use lib.ListN.{length, getD, take, length-map}
@@ -157,7 +156,7 @@ module _ (row : List ℕ) where
             strict =
                 record {
                   some = some-ticks _ _ _ (x .duration) (mul-pos (s .some-duration) l);
-                  fits = not-above (λ lt. eq-false-eq-not-eq-true _ .1 (s .fits) (above .1 lt));
+                  fits = not-above (λ lt. s .fits (above .1 lt));
                 };
             period = not-above (λ lt. short (inr (inl (_, x .period, lt))));
             phase = not-above (λ lt. short (inl (_, x .phase, lt)));

@@ -1,6 +1,6 @@
 -- `Multiple::including` meets its contract, by the cases of the definition.
 -- Assumes nothing.
-use mathlib.Core.Path.{_∙_}
+use mathlib.Core.Path.{refl, _∙_}
 use borrow.Author.Needs.{needs}
 use Rattle.fraction.proofs.Multiple.including.Statement.{statement}
 use Rattle.fraction.proofs.Multiple.including.Tie as tie
@@ -18,7 +18,7 @@ returns : tie.Need-returns
 returns c = search needs
 
 returns-2 : tie.Need-returns-2
-returns-2 c = c .least .ensures ∙ rw (c .before .before .self .given .1)
+returns-2 c = (c .least .ensures ∙ rw (c .before .before .self .given .1), refl)
 
 pub including-spec : {M : Type 1} → statement M
 including-spec = tie.close (tie.spec enum-told enum-known-self least-requires returns returns-2)

@@ -27,9 +27,9 @@ returns : tie.Need-returns
 returns c =
     let calls = c .before .before .before in
     multiple-of _ _ _ _ _ _ _ _ (calls .before .before .lowest .ensures) (calls .before .lowest2 .ensures) (calls .lowest3 .ensures)
-    (c .before .before .including .ensures)
-    (c .before .including2 .ensures)
-    (c .including3 .ensures)
+    (c .before .before .including .ensures .0)
+    (c .before .including2 .ensures .0)
+    (c .including3 .ensures .0)
 
 pub multiple-spec : {M : Type 1} → statement M
 multiple-spec =
