@@ -58,12 +58,15 @@ static void figures(void)
 /* A dispatcher has so many words and so many places. */
 static void dispatchers(void)
 {
-    uint32_t words[URZABELKI_WORDS + 1];
-    memset(words, 0xA5, sizeof words);
-    uint32_t behind = words[URZABELKI_WORDS];
+    struct {
+        urzabelki_dispatcher dispatcher;
+        uint32_t behind;
+    } lent;
+    urzabelki_dispatcher *words = &lent.dispatcher;
+    memset(&lent, 0xA5, sizeof lent);
     urzabelki_fresh(words, 0);
-    holds("the last word is written", words[URZABELKI_WORDS - 1] == 0);
-    holds("no word more is written", words[URZABELKI_WORDS] == behind);
+    holds("the last word is written", words->words[URZABELKI_WORDS - 1] == 0);
+    holds("no word more is written", lent.behind == 0xA5A5A5A5);
     for (uint32_t i = 0; i < URZABELKI_PLACES; i++) {
         holds("there are so many places", urzabelki_value(urzabelki_admit(words, i, 64, 1)) == i);
     }

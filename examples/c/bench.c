@@ -12,7 +12,7 @@
 #include "urzabelki.h"
 
 #define TRAINS 2
-#define ROW (6 * TRAINS)
+#define ROW (URZABELKI_NUMBERS * TRAINS)
 
 /* Phase, period and duration of each train in milliseconds, as numerator and denominator. */
 static const uint32_t row[ROW] = {
@@ -23,7 +23,7 @@ static const uint32_t row[ROW] = {
 /* Ends the program where a call was refused. What is refused has left all memory as it was. */
 static void expect(const char *call, uint64_t answer)
 {
-    if (urzabelki_refusal(answer) != 0) {
+    if (urzabelki_kind(answer) == URZABELKI_REFUSED) {
         fprintf(stderr, "%s: refusal %" PRIu32 " %" PRIu32 "\n", call, urzabelki_refusal(answer), urzabelki_value(answer));
         exit(1);
     }
@@ -64,14 +64,14 @@ static void store(void)
 }
 
 /* Admits the trains of the row, with their phases as delays. */
-static void admit(uint32_t words[URZABELKI_WORDS], uint64_t multiple)
+static void admit(urzabelki_dispatcher *dispatcher, uint64_t multiple)
 {
     for (int train = 0; train < TRAINS; train++) {
-        const uint32_t *times = &row[6 * train];
+        const uint32_t *times = &row[URZABELKI_NUMBERS * train];
         uint32_t delay = ticks(&times[0], multiple);
         uint32_t period = ticks(&times[2], multiple);
         uint32_t duration = ticks(&times[4], multiple);
-        uint64_t answer = urzabelki_admit(words, delay, period, duration);
+        uint64_t answer = urzabelki_admit(dispatcher, delay, period, duration);
         expect("admit", answer);
         printf("train %d (delay %" PRIu32 ", period %" PRIu32 ", duration %" PRIu32 "): place %" PRIu32 "\n", train, delay, period, duration,
                urzabelki_value(answer));
@@ -79,20 +79,21 @@ static void admit(uint32_t words[URZABELKI_WORDS], uint64_t multiple)
 }
 
 /* One tick of the processor. */
-static void step(uint32_t words[URZABELKI_WORDS], uint32_t count)
+static void step(urzabelki_dispatcher *dispatcher, uint32_t count)
 {
-    static const char *const doing[] = {
-        [URZABELKI_IDLE] = "idle",
-        [URZABELKI_STARTS] = "starts",
-        [URZABELKI_GOES_ON] = "goes on",
-    };
-    uint64_t answer = urzabelki_step(words, count);
-    expect("step", answer);
-    uint32_t kind = urzabelki_kind(answer);
-    if (kind == URZABELKI_IDLE) {
-        printf("tick %" PRIu32 ": %s\n", count, doing[kind]);
-    } else {
-        printf("tick %" PRIu32 ": %s %" PRIu32 "\n", count, doing[kind], urzabelki_value(answer));
+    uint64_t answer = urzabelki_step(dispatcher, count);
+    switch (urzabelki_kind(answer)) {
+    case URZABELKI_IDLE:
+        printf("tick %" PRIu32 ": idle\n", count);
+        break;
+    case URZABELKI_STARTS:
+        printf("tick %" PRIu32 ": starts %" PRIu32 "\n", count, urzabelki_value(answer));
+        break;
+    case URZABELKI_GOES_ON:
+        printf("tick %" PRIu32 ": goes on %" PRIu32 "\n", count, urzabelki_value(answer));
+        break;
+    default:
+        expect("step", answer);
     }
 }
 
@@ -101,22 +102,32 @@ int main(void)
     uint64_t multiple = judge();
     store();
 
-    /* The dispatcher is these words. Its first step has the count after this one, which is 0: the count wraps. */
-    uint32_t words[URZABELKI_WORDS];
-    urzabelki_fresh(words, UINT32_MAX);
-    admit(words, multiple);
+    /* The dispatcher is this value. Its first step has the count after the one that is given here, which is 0: the count wraps. */
+    urzabelki_dispatcher dispatcher;
+    urzabelki_fresh(&dispatcher, UINT32_MAX);
+    admit(&dispatcher, multiple);
     for (uint32_t count = 0; count < 26; count++) {
-        step(words, count);
+        step(&dispatcher, count);
     }
 
     /* What would collide is refused, with the place of the train that it would collide with; the dispatcher is as it was. */
-    uint64_t answer = urzabelki_admit(words, 0, 36, 12);
-    printf("admit (0, 36, 12): refusal %" PRIu32 " %" PRIu32 "\n", urzabelki_refusal(answer), urzabelki_value(answer));
+    uint64_t answer = urzabelki_admit(&dispatcher, 0, 36, 12);
+    if (urzabelki_refusal(answer) == URZABELKI_REFUSAL_COLLISION) {
+        printf("admit (0, 36, 12): would collide with place %" PRIu32 "\n", urzabelki_value(answer));
+    }
 
     /* A train can leave at any time, and its place is empty at once. */
-    expect("withdraw", urzabelki_withdraw(words, 1));
+    expect("withdraw", urzabelki_withdraw(&dispatcher, 1));
     printf("place 1: withdrawn\n");
-    answer = urzabelki_withdraw(words, 1);
-    printf("place 1 again: refusal %" PRIu32 " %" PRIu32 "\n", urzabelki_refusal(answer), urzabelki_value(answer));
+    if (urzabelki_refusal(urzabelki_withdraw(&dispatcher, 1)) == URZABELKI_REFUSAL_NO_TRAIN_THERE) {
+        printf("place 1 again: no train is there\n");
+    }
+
+    /* The count 26 was lost, so 27 is refused. The lost one is stepped first; what was to run in it was not run. */
+    if (urzabelki_refusal(urzabelki_step(&dispatcher, 27)) == URZABELKI_REFUSAL_WRONG_COUNT) {
+        printf("tick 27: not the next\n");
+    }
+    step(&dispatcher, 26);
+    step(&dispatcher, 27);
     return 0;
 }

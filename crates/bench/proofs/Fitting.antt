@@ -1,21 +1,17 @@
 -- Every answer that the calls can give has room in the number that is handed back, and is told by it.
--- Core: told, refused-fits, within-row. The rest follows from these and from Naming.
+-- Core: told, refused-fits, short-row. The rest follows from these, from Naming and from Longest.
 -- Assumes nothing.
-use Prim.Native.Nat.{ℕ, _/_, _%_, _^_, _<_, _≤_, max}
+use Prim.Native.Nat.{ℕ, _/_, _%_, _^_, _<_, _≤_}
 use mathlib.Core.Path.{_≡_, refl, ap, subst}
 use mathlib.Core.Bool.{Bool, true, false, cond}
 use mathlib.Core.List.{List}
-use native.Mathlib.Nat.{div-le-self, mul-le-mul, mul-le-mul-right, max-le}
 use native.Mathlib.Omega.{arith}
 use lib.Dec.{ltb}
 use lib.ListN.{length}
 use Rattle.refusal.specs.declared.Refusal.{Refusal}
 use Rattle.refusal.specs.declared.Refusal.the-variants.{TrainCount, ZeroDenominator, ZeroTime, DurationAbovePeriod, TickTooFine, TimeTooLong, BufferTooShort, WrongMark, WrongVersion, WrongLength, NotLowestTerms, NotATrain, NoEmptyPlace, Collision, NoTrainThere, WrongCount}
 use Rattle.refusal.specs.Paper as refusals
-use Rattle.euclid.specs.Answer.{gcd, lcm}
 use Rattle.train.specs.declared.Train.{Train}
-use Rattle.train.specs.Claims.{Limits, maxTicks}
-use Rattle.train.specs.Answer.{reach}
 use Rattle.train.proofs.Least.{earliest-at, earliest-below}
 use Rattle.table.specs.Row.{capacity, longestRow, rowOf, trains}
 use Rattle.table.proofs.Readings.{trains-length, passed-few, passed-limit, passed-limits}
@@ -37,11 +33,10 @@ use Rattle.stored.proofs.Accepted.{accepted}
 use Rattle.stored.proofs.RoundTrip.{save-longest}
 use Rattle.file.specs.Answer.{verdictAfter, fileVerdict}
 use Rattle.line.specs.declared.Written.the-variants as writes
-use Rattle.line.specs.Text.{Within}
-use Rattle.line.specs.Answer.{lineOf, longest, answerFor, written}
-use Rattle.line.proofs.Lines.{line-fits}
-use Rattle.bench.specs.Answer.{Parts, code, parts, Fits, refusedParts, verdictParts, writtenParts, savedParts, loadedParts}
+use Rattle.line.specs.Answer.{lineOf, answerFor, written}
+use Rattle.bench.specs.Answer.{Parts, code, parts, Fits, refusedParts, verdictParts, writtenParts, savedParts, loadedParts, longestLine}
 use Rattle.bench.proofs.Naming.{Named, named-place, refusal-named, save-named, load-named}
+use Rattle.bench.proofs.Longest.{Short, soon, short-line, room-suffices}
 
 -- ---- Core laws
 
@@ -80,23 +75,15 @@ number-small WrongCount = omega arith
 pub refused-fits : (r : Refusal) → refusals.paper r .place ≤ refusals.none → Fits (refusedParts r)
 refused-fits r h = record { number = omega (arith, number-small r); kind = omega arith; value = omega arith }
 
--- two trains within the limits meet at a tick of less than 64 bits
-reach-small : (a b : Train) → Limits a → Limits b → reach a b ≤ 100000010000000
-unfolding lcm
-reach-small a b la lb =
-    let phases : max (a .phase) (b .phase) ≤ maxTicks = max-le (la .phase) (lb .phase) in
-    let product = mul-le-mul (la .period) (lb .period) in
-    omega (arith, mul-le-mul-right (b .period) (div-le-self (a .period) (gcd (a .period) (b .period))))
-
 pub loaded-names : (bs : List ℕ) (room : ℕ) (r : Refusal) → loaded bs room ≡ loads.Refused r → refusals.paper r .place ≤ refusals.none
 loaded-names bs room r e = named-place (subst Named (loaded-refused (loadCheck bs room) _ r .0 e) (load-named bs room))
 
 -- ---- Verdicts
 
--- What is so of every verdict that the calls answer: its refusal names a train below 64, or 64, and its numbers are within their types.
+-- What is so of every verdict that the calls answer: its refusal names a train below 64, or 64, and its numbers are short.
 pub record Proper (v : Verdict) : Type 0 where
   pub named : (r : Refusal) → v ≡ verdicts.Refused r → refusals.paper r .place ≤ refusals.none
-  pub within : Within (paper v)
+  pub short : Short (paper v)
 
 module _ (row : List ℕ) where
   abbrev at : ℕ → Train
@@ -105,14 +92,14 @@ module _ (row : List ℕ) where
   row-named : (r : Refusal) → verdict row ≡ verdicts.Refused r → refusals.paper r .place ≤ refusals.none
   row-named r e = named-place (subst Named (verdict-refuses row r .0 e) (refusal-named row))
 
-  within-row : (v : Verdict) → verdict row ≡ v → Within (paper v)
-  within-row (verdicts.Accepted f) e =
+  short-row : (v : Verdict) → verdict row ≡ v → Short (paper v)
+  short-row (verdicts.Accepted f) e =
       let shown : paper (verdict row) ≡ accept (f .multiple) (f .divisions) = ap paper e in
       let passed = accept-schedulable row .0 (f .multiple, f .divisions, shown) .0 in (
         omega (arith, accept-figures row (f .multiple) (f .divisions) shown .0, passed-limit row passed),
         omega (arith, accept-divisions row (f .multiple) (f .divisions) shown),
       )
-  within-row (verdicts.Collide m f) e =
+  short-row (verdicts.Collide m f) e =
       let shown : paper (verdict row) ≡ collide (m .first) (m .second) (m .tick) (f .multiple) (f .divisions) = ap paper e in
       let so = collide-exactly row (m .first) (m .second) (m .tick) .0 (f .multiple, f .divisions, shown) in
       let few = passed-few row (so .0) in
@@ -125,15 +112,15 @@ module _ (row : List ℕ) where
       let figures = collide-figures row (m .first) (m .second) (m .tick) (f .multiple) (f .divisions) shown in
       let divisions = collide-divisions row (m .first) (m .second) (m .tick) (f .multiple) (f .divisions) shown in (
         omega (arith, trains-length row),
-        (
-          omega (arith, trains-length row),
-          (omega (arith, reach-small (at (m .first)) (at (m .second)) la lb), (omega (arith, figures .0, passed-limit row (so .0)), omega arith)),
-        ),
+        omega (arith, trains-length row),
+        omega (arith, soon (at (m .first)) (at (m .second)) la lb),
+        omega (arith, figures .0, passed-limit row (so .0)),
+        omega arith,
       )
-  within-row (verdicts.Refused r) e = (omega (arith, number-small r), omega (arith, row-named r e))
+  short-row (verdicts.Refused r) e = (omega (arith, number-small r), omega (arith, row-named r e))
 
   pub row-proper : Proper (verdict row)
-  row-proper = record { named = row-named; within = within-row (verdict row) refl }
+  row-proper = record { named = row-named; short = short-row (verdict row) refl }
 
 -- a refusal of loading, or the verdict on a row
 pub file-proper : (bs : List ℕ) → Proper (fileVerdict bs)
@@ -146,7 +133,7 @@ file-proper bs = go (loaded bs longestRow) refl
         let place = loaded-names bs longestRow r e in
         record {
           named = λ q h. let same : r ≡ q = cc in subst (λ (s : Refusal). refusals.paper s .place ≤ refusals.none) same place;
-          within = (omega (arith, number-small r), omega arith);
+          short = (omega (arith, number-small r), omega arith);
         }
 
 pub verdict-fits : (v : Verdict) → Proper v → Fits (verdictParts v)
@@ -156,8 +143,11 @@ verdict-fits (verdicts.Refused r) proper = refused-fits r (proper .named r refl)
 
 -- ---- Lines
 
-pub line-longest : (v : Verdict) → Proper v → length (lineOf v) ≤ longest
-line-longest v proper = line-fits (paper v) (proper .within)
+pub line-longest : (v : Verdict) → Proper v → length (lineOf v) ≤ longestLine
+line-longest v proper = short-line (paper v) (proper .short)
+
+pub line-suffices : (v : Verdict) → Proper v → (room : ℕ) → longestLine ≤ room → written v room ≡ writes.Length (length (lineOf v))
+line-suffices v proper room enough = room-suffices v room (line-longest v proper) enough
 
 pub written-fits : (v : Verdict) (room : ℕ) → Proper v → Fits (writtenParts (written v room))
 unfolding answerFor

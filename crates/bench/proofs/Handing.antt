@@ -15,19 +15,19 @@ use Rattle.stored.specs.declared.Loaded.{Loaded}
 use Rattle.stored.specs.Answer.{saved, savedIn, loaded, loadedIn}
 use Rattle.line.specs.declared.Written.{Written}
 use Rattle.line.specs.Answer.{written, writtenIn}
-use Rattle.bench.specs.Answer.{code, Fits, plain, refusedParts, verdictParts, verdictCode, writtenParts, writtenCode, savedParts, savedCode, loadedParts, loadedCode, figuresIn}
+use Rattle.bench.specs.Answer.{acceptedKind, collideKind, code, Fits, plain, refusedParts, verdictParts, verdictCode, writtenParts, writtenCode, savedParts, savedCode, loadedParts, loadedCode, figuresIn}
 use Rattle.bench.proofs.Fitting.{Proper, verdict-fits, written-fits, saved-fits, loaded-fits}
 
 -- ---- The ways through a verdict
 
 module _ (v : Verdict) (before after : List ℕ) (r : ℕ) where
   pub hands-accepted :
-      (f : Figures) → v ≡ Accepted f → r ≡ code (plain 0 0) → after ≡ sets before 0 (f .multiple ∷ f .divisions ∷ []) →
+      (f : Figures) → v ≡ Accepted f → r ≡ code (plain acceptedKind 0) → after ≡ sets before 0 (f .multiple ∷ f .divisions ∷ []) →
       (r ≡ verdictCode v) × (after ≡ figuresIn v before)
   hands-accepted f e r-is w = (r-is ∙ ap verdictCode (sym e), w ∙ ap (λ (u : Verdict). figuresIn u before) (sym e))
 
   pub hands-collide :
-      (m : Meeting) (f : Figures) → v ≡ Collide m f → r ≡ code (plain 1 0) → (between : List ℕ) →
+      (m : Meeting) (f : Figures) → v ≡ Collide m f → r ≡ code (plain collideKind 0) → (between : List ℕ) →
       between ≡ sets before 0 (f .multiple ∷ f .divisions ∷ []) → after ≡ sets between 2 (m .first ∷ m .second ∷ m .tick ∷ []) →
       (r ≡ verdictCode v) × (after ≡ figuresIn v before)
   hands-collide m f e r-is between w₁ w₂ = (

@@ -1,4 +1,10 @@
 -- The number that each function hands back, which holds three, and the figures of a verdict in the caller's memory.
+--     refusedKind             the kind of every refusal, which no other answer has
+--     doneKind                the kind of a call that was done, where there is no other
+--     acceptedKind, collideKind
+--                             the kinds of a verdict
+--     idleKind, startsKind, goesOnKind
+--                             the kinds of a step
 --     Parts                   a refusal's number, a kind and a value
 --     kindUnit, numberUnit    what one kind counts in the number that is handed back, and one number of a refusal
 --     code p                  the number that holds the three
@@ -10,9 +16,13 @@
 --                             the three of each answer
 --     verdictCode v, writtenCode w, savedCode s, loadedCode l, admissionCode a, withdrawalCode w, tickCode t
 --                             the number of each answer
+--     Seen refused answer     whether a call was refused is seen in its number in two ways, and both are right
 --     figureCount             how many figures there are
 --     figuresIn v before      the figures after a verdict
+--     longestLine             the bytes of the longest line that a call writes
 use Prim.Native.Nat.{ℕ, _+_, _*_, _/_, _%_, _^_, _<_}
+use mathlib.Core.Path.{_≡_}
+use mathlib.Core.Logic.{_↔_}
 use mathlib.Core.List.{List, [], _∷_}
 use lib.Seq.{sets}
 use Rattle.refusal.specs.declared.Refusal.{Refusal}
@@ -31,6 +41,34 @@ use Rattle.dispatcher.specs.declared.Withdrawal.{Withdrawal}
 use Rattle.dispatcher.specs.declared.Withdrawal.the-variants as withdrawals
 use Rattle.dispatcher.specs.declared.Tick.{Tick}
 use Rattle.dispatcher.specs.declared.Tick.the-variants as ticks
+
+-- A call that was refused. A number of zeros is so no answer that can be taken for a good one.
+abbrev pub refusedKind : ℕ
+refusedKind = 0
+
+-- A call that was done, and has no other kind: a line, a table that was saved or loaded, an admission, a withdrawal.
+abbrev pub doneKind : ℕ
+doneKind = 1
+
+-- A table that was accepted.
+abbrev pub acceptedKind : ℕ
+acceptedKind = 2
+
+-- A table with two trains that collide.
+abbrev pub collideKind : ℕ
+collideKind = 3
+
+-- A tick on which nothing runs.
+abbrev pub idleKind : ℕ
+idleKind = 4
+
+-- A tick on which a train starts.
+abbrev pub startsKind : ℕ
+startsKind = 5
+
+-- A tick on which a run goes on.
+abbrev pub goesOnKind : ℕ
+goesOnKind = 6
 
 -- What an answer holds: the number of the refusal, which is 0 where there is none, a kind, and a place, a length or a count.
 pub record Parts : Type 0 where
@@ -66,44 +104,44 @@ plain kind value = record { number = 0; kind = kind; value = value }
 
 -- A call that was refused.
 abbrev pub refusedParts : Refusal → Parts
-refusedParts r = record { number = paper r .number; kind = 0; value = paper r .place }
+refusedParts r = record { number = paper r .number; kind = refusedKind; value = paper r .place }
 
--- Accepted is kind 0, a collision kind 1.
+-- A verdict that is not refused has nothing but its kind; its figures stand in the caller's memory.
 abbrev pub verdictParts : Verdict → Parts
-verdictParts (verdicts.Accepted figures) = plain 0 0
-verdictParts (verdicts.Collide meeting figures) = plain 1 0
+verdictParts (verdicts.Accepted figures) = plain acceptedKind 0
+verdictParts (verdicts.Collide meeting figures) = plain collideKind 0
 verdictParts (verdicts.Refused r) = refusedParts r
 
 -- The length of the line.
 abbrev pub writtenParts : Written → Parts
-writtenParts (writes.Length n) = plain 0 n
+writtenParts (writes.Length n) = plain doneKind n
 writtenParts (writes.Refused r) = refusedParts r
 
 -- The length of the stored table.
 abbrev pub savedParts : Saved → Parts
-savedParts (saves.Length n) = plain 0 n
+savedParts (saves.Length n) = plain doneKind n
 savedParts (saves.Refused r) = refusedParts r
 
 -- The count of trains.
 abbrev pub loadedParts : Loaded → Parts
-loadedParts (loads.Count k) = plain 0 k
+loadedParts (loads.Count k) = plain doneKind k
 loadedParts (loads.Refused r) = refusedParts r
 
 -- The place of the train.
 abbrev pub admissionParts : Admission → Parts
-admissionParts (admissions.At q) = plain 0 q
+admissionParts (admissions.At q) = plain doneKind q
 admissionParts (admissions.Refused r) = refusedParts r
 
 -- A withdrawal has nothing to say but that it was done.
 abbrev pub withdrawalParts : Withdrawal → Parts
-withdrawalParts withdrawals.Withdrawn = plain 0 0
+withdrawalParts withdrawals.Withdrawn = plain doneKind 0
 withdrawalParts (withdrawals.Refused r) = refusedParts r
 
--- Idle is kind 0, a start kind 1, a run that goes on kind 2, both with their place.
+-- A start and a run that goes on have their place.
 abbrev pub tickParts : Tick → Parts
-tickParts ticks.Idle = plain 0 0
-tickParts (ticks.Starts q) = plain 1 q
-tickParts (ticks.GoesOn q) = plain 2 q
+tickParts ticks.Idle = plain idleKind 0
+tickParts (ticks.Starts q) = plain startsKind q
+tickParts (ticks.GoesOn q) = plain goesOnKind q
 tickParts (ticks.Refused r) = refusedParts r
 
 -- The number of a verdict.
@@ -134,6 +172,11 @@ withdrawalCode w = code (withdrawalParts w)
 abbrev pub tickCode : Tick → ℕ
 tickCode t = code (tickParts t)
 
+-- A call was refused exactly when the kind of its number is that of refusals, and exactly when a refusal's number is in it.
+pub record Seen (refused : Type 0) (answer : ℕ) : Type 0 where
+  pub by-kind : refused ↔ (parts answer .kind ≡ refusedKind)
+  pub by-number : refused ↔ (0 < parts answer .number)
+
 -- L, the division count, the two trains of a collision and its tick.
 abbrev pub figureCount : ℕ
 figureCount = 5
@@ -144,3 +187,8 @@ figuresIn (verdicts.Accepted figures) before = sets before 0 (figures .multiple 
 figuresIn (verdicts.Collide meeting figures) before =
     sets before 0 (figures .multiple ∷ figures .divisions ∷ meeting .first ∷ meeting .second ∷ meeting .tick ∷ [])
 figuresIn (verdicts.Refused r) before = before
+
+-- `collide`, two positions of two digits, a tick of 14 digits, an L of 7 and a division count of 5, five spaces and a newline. The
+-- numbers of a verdict on a table are not longer, though their types would be: `longest` of the crate line is for those.
+abbrev pub longestLine : ℕ
+longestLine = 43

@@ -13,11 +13,14 @@ use Rattle.stored.specs.declared.Loaded.the-variants as loads
 use Rattle.stored.specs.Layout.{Words}
 use Rattle.stored.specs.Answer.{saved, loaded}
 use Rattle.file.specs.Answer.{fileVerdict}
-use Rattle.line.specs.Answer.{lineOf, longest, written}
+use Rattle.line.specs.declared.Written.the-variants as writes
+use Rattle.line.specs.Answer.{lineOf, written}
 use Rattle.dispatcher.specs.declared.Admission.the-variants as admissions
+use Rattle.dispatcher.specs.declared.Withdrawal.the-variants as withdrawals
+use Rattle.dispatcher.specs.declared.Tick.the-variants as ticks
 use Rattle.dispatcher.specs.History.{placeCount}
 use Rattle.words.specs.Answer.{admissionIn, withdrawalIn, steppingIn}
-use Rattle.bench.specs.Answer.{Parts, code, parts, Fits, verdictParts, verdictCode, writtenParts, writtenCode, savedParts, savedCode, loadedParts, loadedCode, admissionParts, admissionCode, withdrawalParts, withdrawalCode, tickParts, tickCode}
+use Rattle.bench.specs.Answer.{Parts, code, parts, Fits, verdictParts, verdictCode, writtenParts, writtenCode, savedParts, savedCode, loadedParts, loadedCode, admissionParts, admissionCode, withdrawalParts, withdrawalCode, tickParts, tickCode, Seen, longestLine}
 
 pub record Promises : Type 0 where
   -- Nothing is lost in a number: what has room in it is what the header's functions take out of it.
@@ -37,15 +40,41 @@ pub record Promises : Type 0 where
   pub withdraw-tells : (ws : List ℕ) (q : ℕ) → parts (withdrawalCode (withdrawalIn ws q .answer)) ≡ withdrawalParts (withdrawalIn ws q .answer)
   pub step-tells :
       (ws : List ℕ) (count : ℕ) → Words ws → parts (tickCode (steppingIn ws count .answer)) ≡ tickParts (steppingIn ws count .answer)
+  -- Whoever looks at the kind and whoever looks at the refusal's number is told rightly whether the call was refused.
+  pub judge-seen : (row : List ℕ) → Seen ((r : Refusal) × (verdict row ≡ Refused r)) (verdictCode (verdict row))
+  pub judge-stored-seen : (bs : List ℕ) → Seen ((r : Refusal) × (fileVerdict bs ≡ Refused r)) (verdictCode (fileVerdict bs))
+  pub line-seen :
+      (row : List ℕ) (room : ℕ) →
+      Seen ((r : Refusal) × (written (verdict row) room ≡ writes.Refused r)) (writtenCode (written (verdict row) room))
+  pub line-stored-seen :
+      (bs : List ℕ) (room : ℕ) →
+      Seen ((r : Refusal) × (written (fileVerdict bs) room ≡ writes.Refused r)) (writtenCode (written (fileVerdict bs) room))
+  pub save-seen : (row : List ℕ) (room : ℕ) → Seen ((r : Refusal) × (saved row room ≡ saves.Refused r)) (savedCode (saved row room))
+  pub load-seen : (bs : List ℕ) (room : ℕ) → Seen ((r : Refusal) × (loaded bs room ≡ loads.Refused r)) (loadedCode (loaded bs room))
+  pub admit-seen :
+      (ws : List ℕ) (delay period duration : ℕ) →
+      Seen ((r : Refusal) × (admissionIn ws delay period duration .answer ≡ admissions.Refused r))
+      (admissionCode (admissionIn ws delay period duration .answer))
+  pub withdraw-seen :
+      (ws : List ℕ) (q : ℕ) →
+      Seen ((r : Refusal) × (withdrawalIn ws q .answer ≡ withdrawals.Refused r)) (withdrawalCode (withdrawalIn ws q .answer))
+  pub step-seen :
+      (ws : List ℕ) (count : ℕ) → Words ws →
+      Seen ((r : Refusal) × (steppingIn ws count .answer ≡ ticks.Refused r)) (tickCode (steppingIn ws count .answer))
   -- For a refusal names no train above 64, no line of a verdict is longer than the longest, and a file that is loaded has at most 64
   -- trains. (That what is saved is at most 1,543 bytes long is `save-longest` of the crate stored.)
   pub judge-names : (row : List ℕ) (r : Refusal) → verdict row ≡ Refused r → paper r .place ≤ none
   pub judge-stored-names : (bs : List ℕ) (r : Refusal) → fileVerdict bs ≡ Refused r → paper r .place ≤ none
   pub save-names : (row : List ℕ) (room : ℕ) (r : Refusal) → saved row room ≡ saves.Refused r → paper r .place ≤ none
   pub load-names : (bs : List ℕ) (room : ℕ) (r : Refusal) → loaded bs room ≡ loads.Refused r → paper r .place ≤ none
-  pub line-longest : (row : List ℕ) → length (lineOf (verdict row)) ≤ longest
-  pub line-stored-longest : (bs : List ℕ) → length (lineOf (fileVerdict bs)) ≤ longest
+  pub line-longest : (row : List ℕ) → length (lineOf (verdict row)) ≤ longestLine
+  pub line-stored-longest : (bs : List ℕ) → length (lineOf (fileVerdict bs)) ≤ longestLine
   pub load-few : (bs : List ℕ) (room k : ℕ) → loaded bs room ≡ loads.Count k → k ≤ capacity
+  -- So with as much room as the longest line has no line is refused.
+  pub line-suffices :
+      (row : List ℕ) (room : ℕ) → longestLine ≤ room → written (verdict row) room ≡ writes.Length (length (lineOf (verdict row)))
+  pub line-stored-suffices :
+      (bs : List ℕ) (room : ℕ) → longestLine ≤ room → written (fileVerdict bs) room ≡ writes.Length (length (lineOf (fileVerdict bs)))
   -- A train is admitted to a place below 64, and the place that a refused admission names is at most 64.
   pub admit-place :
       (ws : List ℕ) (delay period duration q : ℕ) → admissionIn ws delay period duration .answer ≡ admissions.At q → q < placeCount

@@ -19,7 +19,7 @@ ghost use Rattle.file.specs.Answer.{fileVerdict};
 ghost use Rattle.line.specs.Answer.{written, writtenIn};
 ghost use Rattle.stored.specs.Answer.{saved, savedIn, loaded, loadedIn};
 ghost use Rattle.words.specs.Answer.{admissionIn, withdrawalIn, steppingIn, freshIn, admittedIn, withdrewIn, steppedIn};
-ghost use Rattle.bench.specs.Answer.{code, Fits, plain, refusedParts, verdictParts, verdictCode, writtenParts, writtenCode, savedParts, savedCode, loadedParts, loadedCode, admissionParts, admissionCode, withdrawalParts, withdrawalCode, tickParts, tickCode, figureCount, figuresIn};
+ghost use Rattle.bench.specs.Answer.{doneKind, code, Fits, plain, refusedParts, verdictParts, verdictCode, writtenParts, writtenCode, savedParts, savedCode, loadedParts, loadedCode, admissionParts, admissionCode, withdrawalParts, withdrawalCode, tickParts, tickCode, figureCount, figuresIn, longestLine};
 
 // Where L stands among the figures of a verdict.
 const MULTIPLE: usize = 0;
@@ -39,23 +39,29 @@ const TICK: usize = 4;
 // How many figures there are.
 pub const FIGURES: usize = TICK + 1;
 
+// The bytes of the longest line that a call writes.
+pub const LONGEST_LINE: usize = 43;
+
+// The kind of every refusal. No other answer has it, so what is not looked at closely is not taken for a good answer.
+const REFUSED: u32 = 0;
+
+// The kind of a call that was done, where there is no other.
+const DONE: u32 = 1;
+
 // The kind of a verdict that accepts.
-const ACCEPTED: u32 = 0;
+const ACCEPTED: u32 = 2;
 
 // The kind of a verdict with a collision.
-const COLLIDE: u32 = 1;
+const COLLIDE: u32 = 3;
 
 // The kind of a step on which nothing runs.
-const IDLE: u32 = 0;
+const IDLE: u32 = 4;
 
 // The kind of a step on which a train starts.
-const STARTS: u32 = 1;
+const STARTS: u32 = 5;
 
 // The kind of a step on which a run goes on.
-const GOES_ON: u32 = 2;
-
-// The kind of an answer that has no other.
-const ONLY: u32 = 0;
+const GOES_ON: u32 = 6;
 
 // The number of a refusal, where there is none.
 const NOT_REFUSED: u32 = 0;
@@ -82,15 +88,15 @@ fn refused(refusal: Refusal) -> u64
     requires { ⌜ Fits (refusedParts refusal) ⌝ }
     ensures { λ r. ⌜ r ≡ code (refusedParts refusal) ⌝ }
 {
-    code(refusal.number(), ONLY, refusal.place())
+    code(refusal.number(), REFUSED, refusal.place())
 }
 
 // The number of a call that was done, and has one kind of answer.
 fn done(value: usize) -> u64
-    requires { ⌜ Fits (plain 0 value) ⌝ }
-    ensures { λ r. ⌜ r ≡ code (plain 0 value) ⌝ }
+    requires { ⌜ Fits (plain doneKind value) ⌝ }
+    ensures { λ r. ⌜ r ≡ code (plain doneKind value) ⌝ }
 {
-    code(NOT_REFUSED, ONLY, value)
+    code(NOT_REFUSED, DONE, value)
 }
 
 // Writes L and the division count. They come as two numbers: as one record the compiler would read them before it knows the kind of
@@ -230,6 +236,7 @@ pub extern "C" fn urzabelki_judge_stored(bytes: &[u8], figures: &mut [u64; FIGUR
 pub extern "C" fn urzabelki_line(row: &[u32], text: &mut [u8]) -> u64
     ensures answer { λ r. ⌜ r ≡ writtenCode (written (verdict (now (row .entry))) (length (now (text .entry)))) ⌝ }
     ensures memory { λ _. ⌜ now (text .exit) ≡ writtenIn (written (verdict (now (row .entry))) (length (now (text .entry)))) (verdict (now (row .entry))) (now (text .entry)) ⌝ }
+    ensures constants { λ _. do ⌜ (← ⟦LONGEST_LINE⟧ .entry) ≡ longestLine ⌝ }
 {
     hand_written(line::write(judge::judge(row), text))
 }

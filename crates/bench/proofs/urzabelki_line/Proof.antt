@@ -1,5 +1,6 @@
 -- `urzabelki_line` meets its contract: the line of what `judge` answers has room, and its length in the number.
 -- Assumes nothing.
+use mathlib.Core.Path.{refl}
 use Rattle.bench.proofs.Fitting.{row-proper}
 use Rattle.bench.proofs.Handing.{line-fitting, hands-line}
 use borrow.Author.Needs.{needs}
@@ -25,7 +26,9 @@ returns : tie.Need-returns
 returns c =
     let wrote = c .before .before .before in
     let judged = wrote .before .before in
-    hands-line _ _ _ _ (judged .judge .ensures) (wrote .write .ensures .0) _ _ _ (wrote .write .ensures .1 .0) (c .hand-written .ensures)
+    let both =
+    hands-line _ _ _ _ (judged .judge .ensures) (wrote .write .ensures .0) _ _ _ (wrote .write .ensures .1 .0) (c .hand-written .ensures) in
+    (both .0, (both .1, refl))
 
 pub urzabelki-line-spec : {M : Type 1} → statement M
 urzabelki-line-spec =
