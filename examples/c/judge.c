@@ -1,14 +1,15 @@
 /*
  * judge TIME..: prints the line of the verdict on the trains that its arguments say: the phase, the period and the duration of each
- * train in milliseconds, as n, n/m or a decimal such as 2.25, which is exactly 9/4. Exit status 0 where the trains are accepted, 1
- * where they collide or are refused, 2 with a message on standard error where an argument is no time, the times are not three a
- * train, or the line cannot be written.
+ * train in milliseconds, as n, n/m or a decimal such as 2.25, which is exactly 9/4; a digit stands on both sides of a point. Exit
+ * status 0 where the trains are accepted, 1 where they collide or are refused, 2 with a message on standard error where an argument
+ * is no time, the times are not three a train, or the line cannot be written.
  *
  *     judge 0 36/13 12/13  12/13 72/13 12/13     prints     accept 13 1
  */
 #include <stdint.h>
 #include <stdio.h>
 #include <stdlib.h>
+#include <string.h>
 
 #include "urzabelki.h"
 
@@ -77,44 +78,47 @@ static void decimals(const char *from, const char *end, uint64_t fraction[2])
     }
 }
 
+/* What is missing on a side of the point or the slash at `mark`, or NULL. */
+static const char *missing(const char *word, const char *mark)
+{
+    if (*word == '\0') {
+        return "is empty";
+    } else if (mark == word) {
+        return *mark == '/' ? "has nothing before the slash" : "has nothing before the point";
+    } else if (*mark != '\0' && mark[1] == '\0') {
+        return *mark == '/' ? "has nothing behind the slash" : "has nothing behind the point";
+    }
+    return NULL;
+}
+
 /* Reads a time, numerator then denominator. What is wrong with the word, or NULL. A denominator of 0 is the library's to refuse. */
 static const char *read_time(const char *word, uint32_t time[2])
 {
+    const char *mark = word + strspn(word, "0123456789");
+    const char *end = word + strlen(word);
     const char *wrong = misspelt(word);
-    const char *mark = word;
-    uint64_t fraction[2] = {0, 1};
+    if (wrong == NULL) {
+        wrong = missing(word, mark);
+    }
     if (wrong != NULL) {
         return wrong;
     }
-    while (*mark >= '0' && *mark <= '9') {
-        mark++;
-    }
-    const char *end = mark;
-    while (*end != '\0') {
-        end++;
-    }
-    if (mark == word) {
-        return *mark == '/' ? "has nothing before the slash" : *mark == '.' ? "has nothing before the point" : "is empty";
-    }
-    if (*mark != '\0' && mark + 1 == end) {
-        return *mark == '/' ? "has nothing behind the slash" : "has nothing behind the point";
-    }
     uint64_t whole = number(word, mark);
+    uint64_t fraction[2] = {whole, 1};
     if (*mark == '/') {
         fraction[1] = number(mark + 1, end);
-    } else if (*mark == '.') {
-        decimals(mark + 1, end, fraction);
-    }
-    if (whole > UINT32_MAX || (*mark == '/' && fraction[1] > UINT32_MAX)) {
-        return "has a number above 4294967295";
-    }
-    if (*mark != '/') {
-        whole = whole * fraction[1] + fraction[0];
     }
     if (whole > UINT32_MAX || fraction[1] > UINT32_MAX) {
-        return "is no fraction in lowest terms of numbers to 4294967295";
+        return "has a number above 4294967295";
     }
-    time[0] = (uint32_t)whole;
+    if (*mark == '.') {
+        decimals(mark + 1, end, fraction);
+        fraction[0] += whole * fraction[1];
+    }
+    if (fraction[0] > UINT32_MAX || fraction[1] > UINT32_MAX) {
+        return "is, in lowest terms, a fraction with a number above 4294967295";
+    }
+    time[0] = (uint32_t)fraction[0];
     time[1] = (uint32_t)fraction[1];
     return NULL;
 }

@@ -1,4 +1,4 @@
--- The number that each function hands back, which holds three, and the figures of a verdict in the caller's memory.
+-- The number that each function hands back, which holds three, the figures of a verdict in the caller's memory, and how long a line is.
 --     refusedKind             the kind of every refusal, which no other answer has
 --     doneKind                the kind of a call that was done, where there is no other
 --     acceptedKind, collideKind
