@@ -114,6 +114,7 @@ static void limits(void)
 static void line(void)
 {
     static uint32_t row[ROOM];
+    static uint8_t bytes[ROOM];
     static uint8_t text[ROOM];
     const char longest[] = "collide 10 11 19715446056913 1000000 16651\n";
     size_t length = 0;
@@ -125,6 +126,11 @@ static void line(void)
     answers("URZABELKI_LONGEST_LINE", urzabelki_line(row, length, text, URZABELKI_LONGEST_LINE), URZABELKI_DONE, URZABELKI_LONGEST_LINE);
     holds("it is the longest line", memcmp(text, longest, strlen(longest)) == 0);
     refuses("and one byte less is too short", urzabelki_line(row, length, text, URZABELKI_LONGEST_LINE - 1),
+            URZABELKI_REFUSAL_BUFFER_TOO_SHORT, URZABELKI_NO_PLACE);
+    length = urzabelki_value(urzabelki_save(row, length, bytes, ROOM));
+    answers("it is so of the stored table", urzabelki_line_stored(bytes, length, text, URZABELKI_LONGEST_LINE), URZABELKI_DONE,
+            URZABELKI_LONGEST_LINE);
+    refuses("and one byte less is too short for it", urzabelki_line_stored(bytes, length, text, URZABELKI_LONGEST_LINE - 1),
             URZABELKI_REFUSAL_BUFFER_TOO_SHORT, URZABELKI_NO_PLACE);
 }
 
