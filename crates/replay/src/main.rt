@@ -6,6 +6,7 @@ use dispatcher::Tick;
 use dispatcher::Withdrawal;
 use refusal::Refusal;
 use script::Call;
+use stream::Input;
 ghost use Prim.Native.Nat.{_≤_};
 ghost use lib.ListN.{length};
 
@@ -67,21 +68,8 @@ fn put_number(lines: &mut [u8; ROOM], at: usize, number: usize) -> usize {
     put_word(lines, next, &digits[..count])
 }
 
-// Ends a line, and writes all that wait where they fill the room nearly.
 fn put_end(lines: &mut [u8; ROOM], at: usize) -> usize {
-    let next = put(lines, at, b'\n');
-    if next > NEARLY_FULL {
-        return written(lines, next);
-    }
-    next
-}
-
-// Writes the answers that wait, and answers how many bytes wait then.
-fn written(lines: &[u8], waiting: usize) -> usize {
-    if waiting <= lines.len() {
-        io::write_all(1, &lines[..waiting]);
-    }
-    0
+    put(lines, at, b'\n')
 }
 
 fn put_line(lines: &mut [u8; ROOM], at: usize, word: &[u8]) -> usize {
@@ -196,16 +184,38 @@ impl Play {
         self
     }
 
-    // All answers are written.
+    // The answers that wait are written. Where that cannot be, nothing goes on.
     fn flushed(mut self, lines: &[u8]) -> Play {
-        self.waiting = written(lines, self.waiting);
+        let written = write(lines, self.waiting);
+        self.waiting = 0;
+        self.goes_on = self.goes_on && written;
         self
+    }
+
+    // Answers a call, and writes all that wait where they fill the room nearly.
+    fn answer(self, call: Call, lines: &mut [u8; ROOM]) -> Play {
+        let play = self.call(call, lines);
+        if play.waiting > NEARLY_FULL {
+            return play.flushed(lines);
+        }
+        play
     }
 
     fn end(mut self) -> Play {
         self.goes_on = false;
         self
     }
+}
+
+// ---- standard output
+
+// Writes the first bytes of the answers, and answers whether they could be written. The count is tested here, so that
+// nothing is asked of whoever counted them.
+fn write(lines: &[u8], waiting: usize) -> bool {
+    if waiting <= lines.len() {
+        return stream::write(&lines[..waiting]);
+    }
+    false
 }
 
 // ---- standard input
@@ -251,16 +261,17 @@ fn collect(input: &[u8], from: usize, line: &mut [u8; KEPT], kept: usize) -> Pie
     }
 }
 
-// Plays the lines that end in this part of the input, and keeps what there is of the next one.
+// Plays the lines that end in this part of the input, as long as their answers can be written, and keeps what there is of
+// the next one.
 fn play_part(play: Play, input: &[u8], line: &mut [u8; KEPT], lines: &mut [u8; ROOM]) -> Play {
     let mut play = play;
     let mut from = 0;
-    while from < input.len() {
+    while from < input.len() && play.goes_on {
         let piece = collect(input, from, line, play.kept);
         if piece.end >= input.len() {
             return play.keep(piece.kept);
         }
-        play = play.call(call_of(line, piece.kept), lines);
+        play = play.answer(call_of(line, piece.kept), lines);
         from = piece.end + 1;
     }
     play
@@ -276,10 +287,13 @@ fn play_last(play: Play, line: &[u8; KEPT], lines: &mut [u8; ROOM]) -> Play {
 }
 
 // Reads what there is to read and plays it; where there is nothing, the input has ended. The answers are written before
-// the next reading, since whoever wrote the calls may wait for them.
+// the next reading, since whoever wrote the calls may wait for them. Of an input that cannot be read the line that has not
+// ended is not answered, for nothing is known of the rest of it.
 fn play_next(play: Play, block: &mut [u8], line: &mut [u8; KEPT], lines: &mut [u8; ROOM]) -> Play {
-    let got = libc::read(0, block);
-    let count = io::count(got, block);
+    let input = stream::read(block);
+    let Input::Bytes(count) = input else {
+        return play.end();
+    };
     if count == 0 {
         return play_last(play, line, lines).flushed(lines);
     }

@@ -5,19 +5,20 @@ use line::Written;
 
 // Prints the line that stands at the start of `text`. The length is tested here, so that nothing is asked of whoever
 // counted it.
-fn print(text: &[u8], length: usize) {
+fn print(text: &[u8], length: usize) -> bool {
     if length <= text.len() {
-        io::write_all(1, &text[..length]);
+        return stream::write(&text[..length]);
     }
+    false
 }
 
-// Prints the line of a verdict.
-pub fn show(verdict: Verdict) {
+// Prints the line of a verdict, and answers whether it could be written.
+pub fn show(verdict: Verdict) -> bool {
     let mut text = [0u8; Written::LONGEST];
     let written = line::write(verdict, &mut text);
     match written {
         Written::Length(length) => print(&text, length),
         // the buffer is too short for no line
-        Written::Refused(_) => {}
+        Written::Refused(_) => false,
     }
 }

@@ -1,6 +1,7 @@
 -- `play_part` ends safely: each turn is a line further on in the input. Assumes nothing.
 use Prim.Native.Nat.{_-_, _≤_}
 use lib.ListN.{length}
+use native.Mathlib.Omega.{arith}
 use borrow.Author.Needs.{needs}
 use Rattle.replay.proofs.play_part.Statement.{statement}
 use Rattle.replay.proofs.play_part.Tie as tie
@@ -26,11 +27,14 @@ returns c = search needs
 call-of-requires : tie.Need-call-of-requires Inv-loop μ-loop
 call-of-requires c κs = search needs
 
-call-requires : tie.Need-call-requires Inv-loop μ-loop
-call-requires c κs = search needs
+answer-requires : tie.Need-answer-requires Inv-loop μ-loop
+answer-requires c κs = search needs
 
 add-from : tie.Need-add-from Inv-loop μ-loop
-add-from c = search needs
+add-from c =
+    let tested = c .before .before .before .before .before .before in
+    let start = tested .before .before .before .before .before .before .before .before in
+    omega (arith, tested .if2 .left, start .good .1 .0 .0)
 
 loop-less : tie.Need-loop-less Inv-loop μ-loop
 loop-less c = search needs
@@ -40,6 +44,9 @@ loop-again c = search needs
 
 returns-2 : tie.Need-returns-2 Inv-loop μ-loop
 returns-2 c = search needs
+
+returns-3 : tie.Need-returns-3 Inv-loop μ-loop
+returns-3 c = search needs
 
 pub play-part-spec : {M : Type 1} → statement M
 play-part-spec =
@@ -52,8 +59,9 @@ play-part-spec =
     keep-requires
     returns
     call-of-requires
-    call-requires
+    answer-requires
     add-from
     loop-less
     loop-again
-    returns-2)
+    returns-2
+    returns-3)

@@ -6,13 +6,13 @@ use borrow.Author.Needs.{needs}
 use Rattle.show.proofs.print.Statement.{statement}
 use Rattle.show.proofs.print.Tie as tie
 
-slice-aggregate-write-all : tie.Need-slice-aggregate-write-all
-slice-aggregate-write-all c =
+slice-aggregate-write : tie.Need-slice-aggregate-write
+slice-aggregate-write c =
     let start = c .before .before .before in
     sym (length-take-le (start .args .length) (start .args .text .now) (c .before .if1 .taken))
 
-write-all-requires : tie.Need-write-all-requires
-write-all-requires c κs = search needs
+write-requires : tie.Need-write-requires
+write-requires c κs = search needs
 
 returns : tie.Need-returns
 returns c = search needs
@@ -21,4 +21,4 @@ returns-2 : tie.Need-returns-2
 returns-2 c = search needs
 
 pub print-spec : {M : Type 1} → statement M
-print-spec = tie.close (tie.spec slice-aggregate-write-all write-all-requires returns returns-2)
+print-spec = tie.close (tie.spec slice-aggregate-write write-requires returns returns-2)

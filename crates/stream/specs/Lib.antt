@@ -1,0 +1,2 @@
+-- What stream promises: Reading says how much of a buffer was read.
+pub mod Reading
