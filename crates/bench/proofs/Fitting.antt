@@ -151,9 +151,9 @@ line-suffices v proper room enough = room-suffices v room (line-longest v proper
 
 pub written-fits : (v : Verdict) (room : ℕ) → Proper v → Fits (writtenParts (written v room))
 unfolding answerFor
-written-fits v room proper = go (ltb room (length (lineOf v)))
+written-fits v room proper = go (ltb room (0 + length (lineOf v)))
   where
-    go : (b : Bool) → Fits (writtenParts (cond b (writes.Refused BufferTooShort) (writes.Length (length (lineOf v)))))
+    go : (b : Bool) → Fits (writtenParts (cond b (writes.Refused BufferTooShort) (writes.Length (0 + length (lineOf v)))))
     go true = refused-fits BufferTooShort (omega arith)
     go false = record { number = omega arith; kind = omega arith; value = omega (arith, line-longest v proper) }
 

@@ -3,20 +3,23 @@
 --     leadingWithin most n     the digits of n, and none for 0, in at most that many digits
 --     decimal n                the decimal notation of n
 --     space, newline           the bytes 32 and 10
---     numbers ns               each number after a space, and then the newline
+--     spaced n                 a number as it stands in a line, after a space
+--     numbers ns               the numbers of a line one after another, and then the newline
+--     textOf word ns           the line of a word and its numbers
 --     acceptWord, collideWord, refuseWord   the three words
 --     line shown               the printed line, as bytes
 --     lineOf verdict           the line of a verdict
 --     longest                  the length of the longest line
---     answerFor text room      the answer to a text that is to be written to a buffer of that length
---     bufferAfter answer text before    the buffer after that answer
+--     answerFor text at room   the answer to a text that is to be written at an index of a buffer of that length
+--     bufferAfter answer text at before    the buffer after that answer
 --     written verdict room     what `write` answers
 --     writtenIn answer verdict before   what it leaves in the buffer
 use Prim.Native.Nat.{ℕ, zero, suc, _+_, _/_, _%_}
 use mathlib.Core.Bool.{cond}
 use mathlib.Core.List.{List, [], _∷_, _++_}
 use lib.Dec.{ltb}
-use lib.ListN.{length, drop}
+use lib.ListN.{length}
+use Rattle.lent.specs.Lent.{over}
 use Rattle.refusal.specs.declared.Refusal.the-variants.{BufferTooShort}
 use Rattle.judge.specs.declared.Verdict.{Verdict}
 use Rattle.judge.specs.Paper.{Shown, accept, collide, refuse, paper}
@@ -45,10 +48,18 @@ space = 32
 abbrev pub newline : ℕ
 newline = 10
 
--- The numbers of a line, each after a space, and the newline at its end.
+-- A number of a line stands after a space.
+abbrev pub spaced : ℕ → List ℕ
+spaced n = space ∷ decimal n
+
+-- The numbers of a line, and the newline at its end.
 unfoldable pub numbers : List ℕ → List ℕ
 numbers [] = newline ∷ []
-numbers (n ∷ ns) = space ∷ (decimal n ++ numbers ns)
+numbers (n ∷ ns) = spaced n ++ numbers ns
+
+-- A line: a word, its numbers in their order, and the newline.
+abbrev pub textOf : (word ns : List ℕ) → List ℕ
+textOf word ns = word ++ numbers ns
 
 -- The word `accept`.
 abbrev pub acceptWord : List ℕ
@@ -64,9 +75,9 @@ refuseWord = 114 ∷ 101 ∷ 102 ∷ 117 ∷ 115 ∷ 101 ∷ []
 
 -- The three lines: the word, and its numbers in their order.
 unfoldable pub line : Shown → List ℕ
-line (accept L divisions) = acceptWord ++ numbers (L ∷ divisions ∷ [])
-line (collide first second tick L divisions) = collideWord ++ numbers (first ∷ second ∷ tick ∷ L ∷ divisions ∷ [])
-line (refuse number train) = refuseWord ++ numbers (number ∷ train ∷ [])
+line (accept L divisions) = textOf acceptWord (L ∷ divisions ∷ [])
+line (collide first second tick L divisions) = textOf collideWord (first ∷ second ∷ tick ∷ L ∷ divisions ∷ [])
+line (refuse number train) = textOf refuseWord (number ∷ train ∷ [])
 
 -- The line of a verdict.
 abbrev pub lineOf : Verdict → List ℕ
@@ -76,19 +87,19 @@ lineOf verdict = line (paper verdict)
 abbrev pub longest : ℕ
 longest = 93
 
--- Of a text for a buffer its length is answered, or the refusal (the paper's number 8) of a buffer that is shorter.
-unfoldable pub answerFor : (text : List ℕ) (room : ℕ) → Written
-answerFor text room = cond (ltb room (length text)) (Refused BufferTooShort) (Length (length text))
+-- Of a text for a buffer it is answered where it ends, or the refusal (the paper's number 8) of a buffer that ends earlier.
+unfoldable pub answerFor : (text : List ℕ) (at room : ℕ) → Written
+answerFor text at room = cond (ltb room (at + length text)) (Refused BufferTooShort) (Length (at + length text))
 
--- After the length the buffer has the text and then what it had; after a refusal it has every byte that it had.
-unfoldable pub bufferAfter : Written → (text before : List ℕ) → List ℕ
-bufferAfter (Length n) text before = text ++ drop n before
-bufferAfter (Refused refusal) text before = before
+-- After an end the buffer has the text at its index and all else as it was; after a refusal it has every byte that it had.
+unfoldable pub bufferAfter : Written → (text : List ℕ) (at : ℕ) (before : List ℕ) → List ℕ
+bufferAfter (Length end) text at before = over before at text
+bufferAfter (Refused refusal) text at before = before
 
--- What `write` answers.
+-- What `write` answers: the line is written to the front.
 abbrev pub written : (verdict : Verdict) (room : ℕ) → Written
-written verdict room = answerFor (lineOf verdict) room
+written verdict room = answerFor (lineOf verdict) 0 room
 
 -- What it leaves in the buffer.
 abbrev pub writtenIn : Written → Verdict → (before : List ℕ) → List ℕ
-writtenIn answer verdict before = bufferAfter answer (lineOf verdict) before
+writtenIn answer verdict before = bufferAfter answer (lineOf verdict) 0 before

@@ -2,4 +2,3 @@
 pub mod Text
 pub mod Answer
 pub mod Promises
-pub mod Writing

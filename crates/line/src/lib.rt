@@ -1,20 +1,17 @@
-// The printed line of a verdict, in ASCII: a word, its numbers in decimal, single spaces, and a newline.
-// `write` has no `requires`: a lent buffer that is too short is refused, and nothing is written to it.
+// A printed line, in ASCII: a word, its numbers in decimal, single spaces, and a newline; and the line of a verdict.
+// No public call has a `requires`: a lent buffer that is too short is refused, and nothing is written to it.
 ghost use mathlib.Core.Path.{_≡_};
 ghost use Prim.Native.Nat.{_+_, _≤_};
-ghost use mathlib.Core.List.{[], _∷_, _++_};
+ghost use lib.Dec.{leb};
 ghost use lib.ListN.{length};
-ghost use Rattle.line.specs.Answer.{decimal, space, numbers, lineOf, longest, written, writtenIn};
-ghost use Rattle.line.specs.Writing.{Wrote};
+ghost use Rattle.line.specs.Answer.{decimal, spaced, numbers, textOf, lineOf, longest, answerFor, bufferAfter, written, writtenIn};
 ghost use Rattle.lent.specs.Lent.{over};
-use judge::Figures;
-use judge::Meeting;
 use judge::Verdict;
 use refusal::Refusal;
 
-// What `write` answers.
+// What `put` and `write` answer.
 pub enum Written {
-    // The line stands at the front of the buffer, and has so many bytes.
+    // The line stands in the buffer, and the bytes up to its end are so many: its own, where it stands at the front.
     Length(usize),
     // Nothing was written.
     Refused(Refusal),
@@ -53,71 +50,85 @@ fn put_decimal(out: &mut [u8], at: usize, n: u64) -> usize
 
 // Writes a space and n at `at`, and answers where they end.
 fn put_number(out: &mut [u8], at: usize, n: u64) -> usize
-    requires { ⌜ at + 1 + length (decimal n) ≤ length (now out) ⌝ }
-    ensures end { λ r. ⌜ r ≡ at + 1 + length (decimal n) ⌝ }
-    ensures bytes { λ _. ⌜ now (out .exit) ≡ over (now (out .entry)) at (space ∷ decimal n) ⌝ }
+    requires { ⌜ at + length (spaced n) ≤ length (now out) ⌝ }
+    ensures end { λ r. ⌜ r ≡ at + length (spaced n) ⌝ }
+    ensures bytes { λ _. ⌜ now (out .exit) ≡ over (now (out .entry)) at (spaced n) ⌝ }
 {
     out[at] = b' ';
     put_decimal(out, at + 1, n)
 }
 
-// Writes at `at` what all three lines end with: two numbers and the newline.
-fn put_two(out: &mut [u8], at: usize, a: u64, b: u64)
-    requires { ⌜ at + length (decimal a) + length (decimal b) + 3 ≤ length (now out) ⌝ }
-    ensures { λ _. ⌜ now (out .exit) ≡ over (now (out .entry)) at (numbers (a ∷ b ∷ [])) ⌝ }
+// How many bytes a number of a line has, with the space before it.
+fn width(n: u64) -> usize
+    ensures { λ r. ⌜ (r ≡ length (spaced n)) × (r ≤ 21) ⌝ }
 {
-    let next = put_number(out, at, a);
-    let end = put_number(out, next, b);
-    out[end] = b'\n';
+    digits(n) + 1
 }
 
-// Writes a word at the front.
-fn put_word(out: &mut [u8], word: &[u8])
-    requires { ⌜ length (now word) ≤ length (now out) ⌝ }
-    ensures { λ _. ⌜ now (out .exit) ≡ over (now (out .entry)) 0 (now (word .entry)) ⌝ }
+// Whether the numbers of a line, and its newline, have room in so many bytes. What each takes is subtracted from what is
+// left, since the sum may be too great for its type.
+fn fit(values: &[u64], room: usize) -> bool
+    ensures { λ r. ⌜ r ≡ leb (length (numbers (now (values .entry)))) room ⌝ }
+{
+    let mut left = room;
+    let mut i = 0;
+    while i < values.len() {
+        let taken = width(values[i]);
+        if left < taken {
+            return false;
+        }
+        left -= taken;
+        i += 1;
+    }
+    1 <= left
+}
+
+// Writes the numbers of a line and its newline at `at`, and answers where they end.
+fn put_numbers(values: &[u64], out: &mut [u8], at: usize) -> usize
+    requires { ⌜ at + length (numbers (now values)) ≤ length (now out) ⌝ }
+    ensures end { λ r. ⌜ r ≡ at + length (numbers (now (values .entry))) ⌝ }
+    ensures bytes { λ _. ⌜ now (out .exit) ≡ over (now (out .entry)) at (numbers (now (values .entry))) ⌝ }
+{
+    let mut next = at;
+    let mut i = 0;
+    while i < values.len() {
+        next = put_number(out, next, values[i]);
+        i += 1;
+    }
+    out[next] = b'\n';
+    next + 1
+}
+
+// Writes a word at `at`.
+fn put_word(word: &[u8], out: &mut [u8], at: usize)
+    requires { ⌜ at + length (now word) ≤ length (now out) ⌝ }
+    ensures { λ _. ⌜ now (out .exit) ≡ over (now (out .entry)) at (now (word .entry)) ⌝ }
 {
     let mut i = 0;
     while i < word.len() {
-        out[i] = word[i];
+        out[at + i] = word[i];
         i += 1;
     }
 }
 
-// Writes the line of a word and two numbers, if there is room for it. No word has more than seven letters.
-fn line_of_two(word: &[u8], a: u64, b: u64, out: &mut [u8]) -> Written
-    requires { ⌜ length (now word) ≤ 7 ⌝ }
-    ensures { λ r. ⌜ Wrote (now (word .entry) ++ numbers (a ∷ b ∷ [])) (now (out .entry)) (now (out .exit)) r ⌝ }
+// Writes the line of a word and its numbers at `at`, and answers where it ends; what stands before and behind is kept.
+// A buffer without room for all of it there is refused, and keeps every byte.
+pub fn put(word: &[u8], values: &[u64], out: &mut [u8], at: usize) -> Written
+    ensures answer { λ r. ⌜ r ≡ answerFor (textOf (now (word .entry)) (now (values .entry))) at (length (now (out .entry))) ⌝ }
+    ensures bytes { λ r. ⌜ now (out .exit) ≡ bufferAfter r (textOf (now (word .entry)) (now (values .entry))) at (now (out .entry)) ⌝ }
 {
-    // Two spaces and the newline.
-    let whole = word.len() + digits(a) + digits(b) + 3;
-    if out.len() < whole {
+    if out.len() < at {
         return Written::Refused(Refusal::BufferTooShort);
     }
-    put_word(out, word);
-    put_two(out, word.len(), a, b);
-    Written::Length(whole)
-}
-
-// Writes the line of a collision, if there is room for it.
-fn line_of_collision(meeting: Meeting, figures: Figures, out: &mut [u8]) -> Written
-    ensures { λ r. ⌜ Wrote (lineOf (Verdict.Collide meeting figures)) (now (out .entry)) (now (out .exit)) r ⌝ }
-{
-    let first = meeting.first as u64;
-    let second = meeting.second as u64;
-    let tick = meeting.tick;
-    let multiple = figures.multiple as u64;
-    let divisions = figures.divisions as u64;
-    // The word and three spaces, then two spaces and the newline.
-    let head = 10 + digits(first) + digits(second) + digits(tick);
-    let end = head + digits(multiple) + digits(divisions) + 3;
-    if out.len() < end {
+    let room = out.len() - at;
+    if room < word.len() {
         return Written::Refused(Refusal::BufferTooShort);
     }
-    put_word(out, b"collide");
-    let at_second = put_number(out, 7, first);
-    let at_tick = put_number(out, at_second, second);
-    let at_multiple = put_number(out, at_tick, tick);
-    put_two(out, at_multiple, multiple, divisions);
+    if !fit(values, room - word.len()) {
+        return Written::Refused(Refusal::BufferTooShort);
+    }
+    put_word(word, out, at);
+    let end = put_numbers(values, out, at + word.len());
     Written::Length(end)
 }
 
@@ -134,13 +145,23 @@ pub fn write(verdict: Verdict, out: &mut [u8]) -> Written
         Verdict::Accepted(figures) => {
             let multiple = figures.multiple as u64;
             let divisions = figures.divisions as u64;
-            line_of_two(b"accept", multiple, divisions, out)
+            let values = [multiple, divisions];
+            put(b"accept", &values, out, 0)
         }
-        Verdict::Collide(meeting, figures) => line_of_collision(meeting, figures, out),
+        Verdict::Collide(meeting, figures) => {
+            let first = meeting.first as u64;
+            let second = meeting.second as u64;
+            let tick = meeting.tick;
+            let multiple = figures.multiple as u64;
+            let divisions = figures.divisions as u64;
+            let values = [first, second, tick, multiple, divisions];
+            put(b"collide", &values, out, 0)
+        }
         Verdict::Refused(refusal) => {
             let number = refusal.number() as u64;
             let place = refusal.place() as u64;
-            line_of_two(b"refuse", number, place, out)
+            let values = [number, place];
+            put(b"refuse", &values, out, 0)
         }
     }
 }
