@@ -17,8 +17,8 @@ pub record Promises : Type 0 where
   -- The words after a call stand for the record after it, whatever the words are, and are as many.
   pub call-stands : (ws : List ℕ) → length ws ≡ wordCount → (call : Call) → recordIn (wordsAfter ws call) ≡ recordAfter (recordIn ws) call
   pub call-length : (ws : List ℕ) → length ws ≡ wordCount → (call : Call) → length (wordsAfter ws call) ≡ wordCount
-  -- D2 to D7 carry over: through any list of calls, what is answered on words is the log of the record that they stand for, and after a
-  -- fresh start it is right.
+  -- Through any list of calls, what is answered on words is the log of the record that they stand for, and after a fresh start it is right.
+  -- So all that the dispatcher's own promises say of its log is so of the words.
   pub words-log : (ws : List ℕ) → length ws ≡ wordCount → (calls : List Call) → logIn ws calls ≡ logOf (recordIn ws) calls
   pub fresh-log : (count : ℕ) (calls : List Call) → logIn (freshIn count) calls ≡ logOf (fresh count) calls
   pub words-right : (count : ℕ) (calls : List Call) → Rights (beginning count) (logIn (freshIn count) calls)
