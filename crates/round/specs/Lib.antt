@@ -1,2 +1,5 @@
--- What round promises. Read Answer (the functions that the contracts cite).
+-- What round promises. Read Given (the order of the refusals), Answer (the functions that the contracts cite), then Promises (what
+-- is proved of them).
+pub mod Given
 pub mod Answer
+pub mod Promises

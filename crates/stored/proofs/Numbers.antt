@@ -9,11 +9,13 @@ use lib.ListN.{length, take, drop}
 use Rattle.refusal.specs.declared.Refusal.{Refusal}
 use Rattle.refusal.specs.declared.Refusal.the-variants.{BufferTooShort}
 use Rattle.refusal.specs.Paper.{Said, paper, answers, refuse}
-use Rattle.refusal.specs.Order.{_when_, inTurn, None, Gives, refusalsOf, atEach}
+use Rattle.refusal.specs.Order.{Check, _when_, inTurn, None, Gives, refusalsOf, atEach}
 use Rattle.refusal.proofs.Answers.{Tells, gives-exactly, refusing-only, answers-not-refuse, answers-only, refusals-both, refusals-in-turn}
 use Rattle.table.specs.declared.Entry.{Entry}
+use Rattle.table.specs.declared.Outcome.{Outcome}
 use Rattle.table.specs.Row.{numbers, recordLength, entries, rowOf, lowestRow, lowestEntry}
 use Rattle.table.specs.Given.{checkedOrder}
+use Rattle.table.proofs.InOrder.{Follows}
 use Rattle.table.proofs.Numbers.{checked-in-order}
 use Rattle.stored.specs.declared.Saved.{Saved}
 use Rattle.stored.specs.declared.Saved.the-variants as saves
@@ -23,9 +25,10 @@ use Rattle.stored.specs.Layout.{headLength, bytesOf, Bytes, Words, Store
 use Rattle.stored.specs.Found.{countIn, trainsIn}
 use Rattle.stored.specs.Given.{saveOrder, storedChecks, headChecks, loadOrder}
 use Rattle.stored.specs.Paper.{paperSaved, paperLoaded}
-use Rattle.stored.specs.Answer.{saved, savedIn, bufferAfter, loaded, loadedIn, rowAfter}
+use Rattle.stored.specs.Answer.{saveCheck, savedAfter, saved, savedIn, bufferAfter, loadCheck, loadedAfter, loaded, loadedIn, rowAfter}
 use Rattle.stored.proofs.Lengths.{records-length}
 use Rattle.stored.proofs.Following as following
+use Rattle.stored.proofs.Following.{save-follows, load-follows, saved-refused, saved-length, loaded-refused, loaded-count}
 use Rattle.stored.proofs.Accepted as accepted
 use Rattle.stored.proofs.RoundTrip as round-trip
 use Rattle.stored.proofs.Written as written
@@ -58,6 +61,28 @@ pub loaded-is : (x : Loaded) (k : ℕ) → (paperLoaded x ≡ answers k) ↔ (x 
 loaded-is (loads.Count m) k = ((λ e. ap loads.Count (answers-only e)), (λ e. ap paperLoaded e))
 loaded-is (loads.Refused r) k = ((λ e. absurd (answers-not-refuse (sym e))), (λ e. ap paperLoaded e))
 
+-- an answer after checks that follow an order has a number and a train exactly when the order gives them, and a value where none holds
+module _ (o : Outcome) (order : List Check) (follows : Follows o order) (value : ℕ) where
+  pub saved-gives : (number train : ℕ) → (paperSaved (savedAfter o value) ≡ refuse number train) ↔ Gives order number train
+  saved-gives =
+      gives-exactly paperSaved saves.Refused refuse saved-tells order (savedAfter o value)
+      (λ r. Iff·trans (saved-refused o value r) (follows .refused r))
+
+  pub loaded-gives : (number train : ℕ) → (paperLoaded (loadedAfter o value) ≡ refuse number train) ↔ Gives order number train
+  loaded-gives =
+      gives-exactly paperLoaded loads.Refused refuse loaded-tells order (loadedAfter o value)
+      (λ r. Iff·trans (loaded-refused o value r) (follows .refused r))
+
+  pub saved-answers : (n : ℕ) → (paperSaved (savedAfter o value) ≡ answers n) ↔ (None order × (n ≡ value))
+  saved-answers n =
+      Iff·trans (saved-is (savedAfter o value) n)
+      (Iff·trans (saved-length o value n) ((λ w. (follows .passed .0 (w .0), sym (w .1))), (λ w. (follows .passed .1 (w .0), sym (w .1)))))
+
+  pub loaded-answers : (k : ℕ) → (paperLoaded (loadedAfter o value) ≡ answers k) ↔ (None order × (k ≡ value))
+  loaded-answers k =
+      Iff·trans (loaded-is (loadedAfter o value) k)
+      (Iff·trans (loaded-count o value k) ((λ w. (follows .passed .0 (w .0), sym (w .1))), (λ w. (follows .passed .1 (w .0), sym (w .1)))))
+
 -- what a call leaves is what its answer says
 pub buffer-is : (row out : List ℕ) (answer : Saved) → saved row (length out) ≡ answer → bufferAfter row out ≡ savedIn answer row out
 buffer-is row out answer e = ap (λ (a : Saved). savedIn a row out) e
@@ -78,8 +103,7 @@ save-in-order row room =
 pub save-refused :
     (row : List ℕ) (room number train : ℕ) →
     (paperSaved (saved row room) ≡ refuse number train) ↔ Gives (saveOrder row room) number train
-save-refused row room =
-    gives-exactly paperSaved saves.Refused refuse saved-tells (saveOrder row room) (saved row room) (following.save-refused row room)
+save-refused row room = saved-gives (saveCheck row room) (saveOrder row room) (save-follows row room) _
 
 pub save-keeps :
     (row out : List ℕ) (number train : ℕ) → paperSaved (saved row (length out)) ≡ refuse number train → bufferAfter row out ≡ out
@@ -155,8 +179,7 @@ load-in-order bs room =
 pub load-refused :
     (bs : List ℕ) (room number train : ℕ) →
     (paperLoaded (loaded bs room) ≡ refuse number train) ↔ Gives (loadOrder bs room) number train
-load-refused bs room =
-    gives-exactly paperLoaded loads.Refused refuse loaded-tells (loadOrder bs room) (loaded bs room) (following.load-refused bs room)
+load-refused bs room = loaded-gives (loadCheck bs room) (loadOrder bs room) (load-follows bs room) _
 
 pub load-keeps :
     (bs before : List ℕ) (number train : ℕ) → paperLoaded (loaded bs (length before)) ≡ refuse number train → rowAfter bs before ≡ before
