@@ -6,10 +6,10 @@ use mathlib.Core.Path.{_≡_, refl, sym, ap, subst, _∙_}
 use mathlib.Core.Bool.{Bool, true, false}
 use mathlib.Core.List.{List, [], _∷_}
 use native.Mathlib.Omega.{arith}
-use lib.Dec.{eqb, ltb}
+use lib.Dec.{ltb}
 use lib.ListN.{length, getD, set}
 use lib.Seq.{length-sets}
-use borrow.Author.Tests.{ltb-true, ltb-false, eqb-true, eqb-false}
+use borrow.Author.Tests.{ltb-true, ltb-false}
 use Rattle.train.specs.declared.Train.{Train}
 use Rattle.train.specs.Answer.{withinLimits}
 use Rattle.dispatcher.specs.declared.Place.{Place}
@@ -27,7 +27,7 @@ use Rattle.dispatcher.specs.declared.Tick.the-variants as tick
 use Rattle.dispatcher.specs.declared.Stepped.{Stepped}
 use Rattle.dispatcher.specs.Calls.{Call, admit, withdraw, step, Event, refused}
 use Rattle.dispatcher.specs.History.{placeCount}
-use Rattle.dispatcher.specs.Answer.{isSought, lowest, emptyPlace, heldAt, fresh, nextCount, put, placeFor, admission, ended, withdrawal, startedPlace, starting, stepping}
+use Rattle.dispatcher.specs.Answer.{isSought, lowest, emptyPlace, heldAt, fresh, nextCount, isNext, put, placeFor, admission, ended, withdrawal, startedPlace, starting, stepping}
 use Rattle.dispatcher.specs.Played.{admissionEvent, withdrawalEvent, tickEvent, eventOf, recordAfter, logOf}
 use Rattle.dispatcher.proofs.Answers.{admission-not-a-train, admission-no-place, admission-collides, admission-placed, withdrawal-outside, withdrawal-none, withdrawal-done, stepping-wrong, stepping-goes-on, stepping-starts, stepping-idle}
 use Rattle.words.specs.Record.{placeLength, lastAt, wordCount, placeIn, placesFrom, placesIn, recordIn, placeWords, tailWords, placeOver}
@@ -115,7 +115,7 @@ module _ (ws : List ℕ) (all : length ws ≡ wordCount) where
   StepStands s = recordIn (steppedIn s ws) ≡ s .dispatcher
 
   pub step-stands : (count : ℕ) → StepStands (stepping (recordIn ws) count)
-  step-stands count = right (eqb count (nextCount (recordIn ws))) refl
+  step-stands count = right (isNext (recordIn ws) count) refl
     where
       d : Dispatcher
       d = recordIn ws
@@ -126,7 +126,7 @@ module _ (ws : List ℕ) (all : length ws ≡ wordCount) where
       way : (s : Stepped) → stepping d count ≡ s → StepStands s → StepStands (stepping d count)
       way s e so = subst StepStands (sym e) so
 
-      starts : count ≡ nextCount d → d .run .left ≤ 0 → (b : Bool) → ltb due placeCount ≡ b → StepStands (stepping d count)
+      starts : isNext d count ≡ true → d .run .left ≤ 0 → (b : Bool) → ltb due placeCount ≡ b → StepStands (stepping d count)
       starts r n true e =
           let h = ltb-true due placeCount e in
           let next : Stepped = starting (record { places = d .places; last = count; run = d .run }) due in
@@ -136,15 +136,15 @@ module _ (ws : List ℕ) (all : length ws ≡ wordCount) where
           way _ (stepping-idle d count r n (ltb-false due placeCount e))
           (record-tail ws all (record { places = d .places; last = count; run = d .run }))
 
-      runs : count ≡ nextCount d → (b : Bool) → ltb 0 (d .run .left) ≡ b → StepStands (stepping d count)
+      runs : isNext d count ≡ true → (b : Bool) → ltb 0 (d .run .left) ≡ b → StepStands (stepping d count)
       runs r true e =
           let next : Dispatcher = record { places = d .places; last = count; run = record { place = d .run .place; left = d .run .left - 1 } } in
           way _ (stepping-goes-on d count r (ltb-true 0 (d .run .left) e)) (record-tail ws all next)
       runs r false e = starts r (ltb-false 0 (d .run .left) e) (ltb due placeCount) refl
 
-      right : (b : Bool) → eqb count (nextCount d) ≡ b → StepStands (stepping d count)
-      right true e = runs (eqb-true count (nextCount d) e) (ltb 0 (d .run .left)) refl
-      right false e = way _ (stepping-wrong d count (eqb-false count (nextCount d) e)) refl
+      right : (b : Bool) → isNext d count ≡ b → StepStands (stepping d count)
+      right true e = runs e (ltb 0 (d .run .left)) refl
+      right false e = way _ (stepping-wrong d count e) refl
 
   -- ---- So for any call
 

@@ -23,7 +23,7 @@ use Rattle.dispatcher.specs.declared.Withdrew.{Withdrew}
 use Rattle.dispatcher.specs.declared.Tick.the-variants as tick
 use Rattle.dispatcher.specs.declared.Stepped.{Stepped}
 use Rattle.dispatcher.specs.History.{placeCount}
-use Rattle.dispatcher.specs.Answer.{isSought, lowest, emptyPlace, refusedAdmission, nextCount, put, admission, ended, withdrawal, startedPlace, restOf, starting, stepping}
+use Rattle.dispatcher.specs.Answer.{isSought, lowest, emptyPlace, refusedAdmission, isNext, put, admission, ended, withdrawal, startedPlace, restOf, starting, stepping}
 use Rattle.dispatcher.proofs.Answers.{withdrawal-outside, withdrawal-none, withdrawal-done, stepping-wrong, stepping-goes-on, steps-start, steps-idle}
 use Rattle.words.specs.Record.{lastAt, placeIn, placesIn, recordIn, placeOver}
 use Rattle.words.specs.Answer.{admittedIn, withdrewIn, steppedIn}
@@ -126,10 +126,10 @@ module _ (ws : List ℕ) where
     steps-so s out e o = (ap (λ (x : Stepped). x .answer) e, o ∙ ap (λ (x : Stepped). steppedIn x ws) e)
 
     pub steps-wrong :
-        (count ≡ nextCount (recordIn ws) → ⊥) → (tick.Refused WrongCount ≡ steps .answer) × (ws ≡ steppedIn steps ws)
-    steps-wrong n = steps-so _ ws (sym (stepping-wrong (recordIn ws) count n)) refl
+        isNext (recordIn ws) count ≡ false → (tick.Refused WrongCount ≡ steps .answer) × (ws ≡ steppedIn steps ws)
+    steps-wrong wrong = steps-so _ ws (sym (stepping-wrong (recordIn ws) count wrong)) refl
 
-    module _ (right : count ≡ nextCount (recordIn ws)) where
+    module _ (right : isNext (recordIn ws) count ≡ true) where
       pub steps-on :
           (out : List ℕ) → 0 < recordIn ws .run .left →
           out ≡ sets ws lastAt (count ∷ recordIn ws .run .place ∷ (recordIn ws .run .left - 1) ∷ []) →

@@ -6,6 +6,7 @@
 --     placesFrom ws q n       so many places from q on
 --     placesIn ws             the places
 --     recordIn ws             the record that the words stand for
+--     heldWords held          the words of what a place holds
 --     placeWords place        the words of a place
 --     tailWords d             the words behind the places: the last count and the run in progress
 --     wordsOf d               the words of a record

@@ -1,18 +1,20 @@
 -- `step` meets its contract: its four answers are those of the record, by the laws of the ways.
 -- Assumes nothing.
 use mathlib.Core.Path.{_≡_, sym, ap, _∙_}
+use mathlib.Core.Bool.{true}
 use Rattle.dispatcher.specs.declared.Tick.the-variants as tick
-use Rattle.dispatcher.specs.Answer.{nextCount}
+use Rattle.dispatcher.specs.Answer.{isNext}
 use Rattle.words.specs.Record.{recordIn}
 use denote.Ref.{now}
 use Rattle.words.proofs.Ways.{steps-wrong, steps-on, steps-none, steps-starts}
 use borrow.Author.Needs.{needs}
+use borrow.Author.Tests.{eq-eqb, ne-eqb}
 use Rattle.words.proofs.step.Statement.{statement}
 use Rattle.words.proofs.step.Tie as tie
 
 -- past the first test the count is the next
-right : (c : tie.Else1) → let a = c .before .before .before .args in a .count ≡ nextCount (recordIn (now (a .words)))
-right c = c .if1 .left ∙ c .before .wrapping-add-u32 .ensures
+right : (c : tie.Else1) → let a = c .before .before .before .args in isNext (recordIn (now (a .words))) (a .count) ≡ true
+right c = eq-eqb _ _ (c .if1 .left ∙ c .before .wrapping-add-u32 .ensures)
 
 element-copy-out-wrapping-add-u32 : tie.Need-element-copy-out-wrapping-add-u32
 element-copy-out-wrapping-add-u32 c = search needs
@@ -21,7 +23,7 @@ wrapping-add-u32-requires : tie.Need-wrapping-add-u32-requires
 wrapping-add-u32-requires c κs = search needs
 
 returns : tie.Need-returns
-returns c = steps-wrong _ _ (λ e. c .if1 .taken (e ∙ sym (c .before .wrapping-add-u32 .ensures)))
+returns c = steps-wrong _ _ (ne-eqb _ _ (λ e. c .if1 .taken (e ∙ sym (c .before .wrapping-add-u32 .ensures))))
 
 element-copy-out-place : tie.Need-element-copy-out-place
 element-copy-out-place c = search needs
