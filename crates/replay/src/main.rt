@@ -192,15 +192,6 @@ impl Play {
         self
     }
 
-    // Answers a call, and writes all that wait where they fill the room nearly.
-    fn answer(self, call: Call, lines: &mut [u8; ROOM]) -> Play {
-        let play = self.call(call, lines);
-        if play.waiting > NEARLY_FULL {
-            return play.flushed(lines);
-        }
-        play
-    }
-
     fn end(mut self) -> Play {
         self.goes_on = false;
         self
@@ -271,7 +262,10 @@ fn play_part(play: Play, input: &[u8], line: &mut [u8; KEPT], lines: &mut [u8; R
         if piece.end >= input.len() {
             return play.keep(piece.kept);
         }
-        play = play.answer(call_of(line, piece.kept), lines);
+        play = play.call(call_of(line, piece.kept), lines);
+        if play.waiting > NEARLY_FULL {
+            play = play.flushed(lines);
+        }
         from = piece.end + 1;
     }
     play

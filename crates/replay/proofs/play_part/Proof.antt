@@ -27,12 +27,15 @@ returns c = search needs
 call-of-requires : tie.Need-call-of-requires Inv-loop μ-loop
 call-of-requires c κs = search needs
 
-answer-requires : tie.Need-answer-requires Inv-loop μ-loop
-answer-requires c κs = search needs
+call-requires : tie.Need-call-requires Inv-loop μ-loop
+call-requires c κs = search needs
+
+flushed-requires : tie.Need-flushed-requires Inv-loop μ-loop
+flushed-requires c κs = search needs
 
 add-from : tie.Need-add-from Inv-loop μ-loop
 add-from c =
-    let tested = c .before .before .before .before .before .before in
+    let tested = c .before .before .before .before .before .before .before .before in
     let start = tested .before .before .before .before .before .before .before .before in
     omega (arith, tested .if2 .left, start .good .1 .0 .0)
 
@@ -59,7 +62,8 @@ play-part-spec =
     keep-requires
     returns
     call-of-requires
-    answer-requires
+    call-requires
+    flushed-requires
     add-from
     loop-less
     loop-again
