@@ -97,6 +97,16 @@ impl Dispatcher {
         self.steps
     }
 
+    /// The count of the step that is this tick.
+    pub fn count_at(&self, tick: u128) -> u32 {
+        ((u128::from(self.count) + 1 + tick) % COUNTS) as u32
+    }
+
+    /// Takes so many steps, whose answers were settled elsewhere.
+    pub fn pass(&mut self, steps: u128) {
+        self.steps += steps;
+    }
+
     /// The places that hold a train.
     pub fn held(&self) -> Vec<(usize, Train)> {
         let held = self.places.iter().enumerate().filter_map(|(place, train)| Some((place, (*train)?)));
@@ -141,11 +151,16 @@ impl Dispatcher {
     }
 
     fn step(&mut self, count: u32) -> Answer {
-        if u128::from(count) != (u128::from(self.count) + self.steps + 1) % COUNTS {
+        if count != self.count_at(self.steps) {
             return Answer::Refuse(17, NO_PLACE);
         }
         let tick = self.steps;
         self.steps += 1;
+        self.at(tick)
+    }
+
+    /// What happens in a tick, by the trains that are there now.
+    pub fn at(&self, tick: u128) -> Answer {
         let trains = self.places.iter().enumerate().filter_map(|(place, train)| Some((place, (*train)?)));
         let mut claims = trains.filter(|(_, train)| train.claims(tick));
         let claim = claims.next();

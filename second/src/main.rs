@@ -6,6 +6,7 @@ mod damaged;
 mod dispatcher;
 mod divisors;
 mod draw;
+mod far;
 mod files;
 mod library;
 mod records;
@@ -18,6 +19,7 @@ mod stored;
 mod sweeps;
 mod tables;
 mod texts;
+mod timetable;
 mod trains;
 mod wrap;
 
@@ -30,6 +32,9 @@ usage: second compare SEED CASES
                                  the seed: verdicts on rows, saves, loads and verdicts on files, calls of a
                                  dispatcher, and calls on words that no calls need have led to; the first
                                  difference is shown with its case, and the exit status is then 1
+       second far SEED           steps dispatchers with the library for a hundred million steps, in scenes drawn from the
+                                 seed, and compares each step: delays and periods of millions of ticks, the wrap of
+                                 the count, withdrawals and admissions in between
        second sheet              the lines of the tables of the bench sheet, in order
        second damaged PROGRAM FILE..
                                  compares what the program `verdict`, which is at PROGRAM, prints for each
@@ -72,6 +77,7 @@ fn run(words: &[&str], out: &mut impl Write) -> Option<Result<()>> {
         ["damaged", program, files @ ..] if !files.is_empty() => {
             Some(damaged::compare(program, files).and_then(|said| out.write_all(said.as_bytes())))
         }
+        ["far", seed] => Some(compare::far::compare(seed.parse().ok()?, out)),
         ["wrap-script"] => Some(out.write_all(&wrap::text())),
         ["wrap-lines"] => Some(out.write_all(replay::answers(&wrap::text()).as_bytes())),
         [command, seed, number] => drawn(command, seed.parse().ok()?, number.parse().ok()?, out),

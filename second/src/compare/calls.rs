@@ -88,12 +88,12 @@ pub fn check(call: Call, record: &mut Record, lent: &mut Lent<u32>) -> Result<An
 }
 
 /// The calls in words, a line each.
-fn listed(calls: &[Call]) -> String {
+pub fn listed(calls: &[Call]) -> String {
     calls.iter().map(|call| format!("{call}\n")).collect()
 }
 
 /// Plays a call with the library.
-fn play(call: Call, words: &mut Words) -> Parts {
+pub fn play(call: Call, words: &mut Words) -> Parts {
     match call {
         Call::Fresh(count) => {
             library::fresh(words, count);
@@ -106,7 +106,7 @@ fn play(call: Call, words: &mut Words) -> Parts {
 }
 
 /// The number that the library has to hand back for an answer, taken apart.
-fn parts(answer: Answer) -> Parts {
+pub fn parts(answer: Answer) -> Parts {
     match answer {
         Answer::Fresh | Answer::Withdrawn => Parts::done(0),
         Answer::Place(place) => Parts::done(place),

@@ -2,6 +2,7 @@
 //! difference ends it, and is shown with the whole case. At the end a line for each kind says what was compared.
 
 mod calls;
+pub mod far;
 mod loads;
 mod memory;
 mod saves;

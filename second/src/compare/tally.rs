@@ -16,10 +16,15 @@ impl Tally {
 
     /// One more of the answer that the text begins with, up to the numbers that it may have further.
     pub fn count(&mut self, answer: &str) {
+        self.count_times(answer, 1);
+    }
+
+    /// So many more of it.
+    pub fn count_times(&mut self, answer: &str, times: u64) {
         let is_met =
             |name: &&str| answer.strip_prefix(name).is_some_and(|rest| rest.is_empty() || rest.starts_with(' '));
         let at = self.answers.iter().position(is_met).expect("there is no other answer");
-        self.counts[at] += 1;
+        self.counts[at] += times;
     }
 
     /// The answers that were never met.
