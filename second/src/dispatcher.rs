@@ -4,11 +4,8 @@
 //! where that is late.
 
 use crate::divisors::greatest_common_divisor;
+use crate::paper::{MOST_TICKS, NO_PLACE, PLACES};
 use std::fmt;
-
-const PLACES: usize = 64;
-const NO_PLACE: usize = 64;
-const MOST_TICKS: u32 = 10_000_000;
 
 /// The hardware count comes round after so many.
 const COUNTS: u128 = 1 << 32;

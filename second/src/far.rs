@@ -3,9 +3,10 @@
 
 use crate::dispatcher::{Call, Dispatcher, Train};
 use crate::draw::Draw;
+use crate::paper;
 use crate::timetable::next_start;
 
-const MOST_TICKS: u64 = 10_000_000;
+const MOST_TICKS: u64 = paper::MOST_TICKS as u64;
 const LARGEST: u64 = u32::MAX as u64;
 
 /// The base, of which all periods are multiples; how many slots it has; and how many steps the scene takes. The first scene
@@ -35,10 +36,12 @@ pub struct Scene {
     left: u64,
 }
 
-/// All scenes of a seed.
+/// From so many scenes on, there was one of each shape.
+pub const SHAPES: u64 = SCENES.len() as u64;
+
+/// The scenes of a seed, without end. The shapes come round in turn.
 pub fn scenes(seed: u64) -> impl Iterator<Item = Scene> {
-    let draw = move |number| Draw::new(seed, number as u64);
-    SCENES.iter().enumerate().map(move |(number, shape)| Scene::new(draw(number), *shape, number % 2 == 1))
+    (0..).map(move |number| Scene::new(Draw::new(seed, number), SCENES[(number % SHAPES) as usize], number % 2 == 1))
 }
 
 impl Scene {

@@ -2,14 +2,15 @@
 //! place of the paper where a program is likely to go wrong. What they deserve is not settled here, but in `stored`.
 
 use crate::draw::Draw;
+use crate::paper::{BYTES_A_TRAIN, HEAD, NUMBERS_A_TRAIN};
 use crate::rows;
-use crate::stored::{load, packed, save, BYTES_A_TRAIN, HEAD};
-use crate::tables::{lowest, Time, NUMBERS_A_TRAIN};
+use crate::stored::{load, packed, save};
+use crate::tables::{lowest, Time};
 
-/// The most bytes that are lent, and the longest file but for a few, beyond the 1,543 of the longest good file.
+/// The most bytes that are lent, and the longest file but for a few, beyond those of the longest good file.
 const LONGEST_FILE: usize = 1_600;
 
-/// The most numbers that are lent, beyond the 384 that a table takes.
+/// The most numbers that are lent, beyond those that a table takes.
 const LONGEST_ROW: usize = 400;
 
 const LARGEST: u64 = u32::MAX as u64;

@@ -1,11 +1,32 @@
 //! The proved library, libbench.a, as include/urzabelki.h says it: a safe function for each of its C functions, with slices
 //! and arrays for its pointers. Only this file knows that there is C in between.
 
-pub const FIGURES: usize = 5;
-pub const WORDS: usize = 259;
+use crate::paper;
+
+/// The numbers of the header, without the name that each begins with; build.rs takes them from there.
+#[allow(dead_code)]
+pub mod header {
+    include!(concat!(env!("OUT_DIR"), "/header.rs"));
+}
+
+pub const FIGURES: usize = header::FIGURES as usize;
+pub const WORDS: usize = header::WORDS as usize;
+
+/// The figures of a verdict.
+pub type Figures = [u64; FIGURES];
 
 /// The words of a dispatcher.
 pub type Words = [u32; WORDS];
+
+// The header's numbers are those of the paper.
+const _: () = assert!(header::TRAINS as usize == paper::MOST_TRAINS);
+const _: () = assert!(header::NUMBERS as usize == paper::NUMBERS_A_TRAIN);
+const _: () = assert!(header::LONGEST_ROW as usize == paper::MOST_NUMBERS);
+const _: () = assert!(header::LONGEST_STORED as usize == paper::LONGEST_FILE);
+const _: () = assert!(header::MAX_MULTIPLE == paper::MOST_MULTIPLE);
+const _: () = assert!(header::MAX_TICKS == paper::MOST_TICKS);
+const _: () = assert!(header::PLACES as usize == paper::PLACES);
+const _: () = assert!(header::NO_PLACE as usize == paper::NO_PLACE);
 
 /// The three numbers that one answer holds.
 #[derive(Clone, Copy, PartialEq, Eq, Debug)]
@@ -16,9 +37,9 @@ pub struct Parts {
 }
 
 impl Parts {
-    /// What a call answers that is not refused and has but one kind.
+    /// What a call answers that was done.
     pub fn done(value: usize) -> Parts {
-        Parts::of_kind(0, value)
+        Parts::of_kind(header::DONE, value)
     }
 
     pub fn of_kind(kind: u32, value: usize) -> Parts {
@@ -26,7 +47,7 @@ impl Parts {
     }
 
     pub fn refused((number, place): (u32, usize)) -> Parts {
-        Parts { refusal: number, kind: 0, value: place as u32 }
+        Parts { refusal: number, kind: header::REFUSED, value: place as u32 }
     }
 
     fn taken_apart(answer: u64) -> Parts {
@@ -50,11 +71,11 @@ extern "C" {
 // In each of these calls the pointers point to as many elements as the header asks for, and what is written is borrowed for
 // the call alone; the header asks for nothing else.
 
-pub fn judge(row: &[u32], figures: &mut [u64; FIGURES]) -> Parts {
+pub fn judge(row: &[u32], figures: &mut Figures) -> Parts {
     Parts::taken_apart(unsafe { urzabelki_judge(row.as_ptr(), row.len(), figures.as_mut_ptr()) })
 }
 
-pub fn judge_stored(bytes: &[u8], figures: &mut [u64; FIGURES]) -> Parts {
+pub fn judge_stored(bytes: &[u8], figures: &mut Figures) -> Parts {
     Parts::taken_apart(unsafe { urzabelki_judge_stored(bytes.as_ptr(), bytes.len(), figures.as_mut_ptr()) })
 }
 

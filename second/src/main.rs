@@ -9,6 +9,7 @@ mod draw;
 mod far;
 mod files;
 mod library;
+mod paper;
 mod records;
 mod replay;
 mod rows;
@@ -32,9 +33,10 @@ usage: second compare SEED CASES
                                  the seed: verdicts on rows, saves, loads and verdicts on files, calls of a
                                  dispatcher, and calls on words that no calls need have led to; the first
                                  difference is shown with its case, and the exit status is then 1
-       second far SEED           steps dispatchers with the library for a hundred million steps, in scenes drawn from the
-                                 seed, and compares each step: delays and periods of millions of ticks, the wrap of
-                                 the count, withdrawals and admissions in between
+       second far SEED SCENES    steps dispatchers of the library, for twelve to twenty-one million steps in each of so
+                                 many scenes drawn from the seed, and compares each step: delays and periods up to ten
+                                 million ticks, the wrap of the count, withdrawals and admissions in between; in
+                                 eight scenes there is one of each shape
        second sheet              the lines of the tables of the bench sheet, in order
        second damaged PROGRAM FILE..
                                  compares what the program `verdict`, which is at PROGRAM, prints for each
@@ -77,7 +79,6 @@ fn run(words: &[&str], out: &mut impl Write) -> Option<Result<()>> {
         ["damaged", program, files @ ..] if !files.is_empty() => {
             Some(damaged::compare(program, files).and_then(|said| out.write_all(said.as_bytes())))
         }
-        ["far", seed] => Some(compare::far::compare(seed.parse().ok()?, out)),
         ["wrap-script"] => Some(out.write_all(&wrap::text())),
         ["wrap-lines"] => Some(out.write_all(replay::answers(&wrap::text()).as_bytes())),
         [command, seed, number] => drawn(command, seed.parse().ok()?, number.parse().ok()?, out),
@@ -89,6 +90,7 @@ fn run(words: &[&str], out: &mut impl Write) -> Option<Result<()>> {
 fn drawn(command: &str, seed: u64, number: u64, out: &mut impl Write) -> Option<Result<()>> {
     match command {
         "compare" => Some(compare::compare(seed, number, out)),
+        "far" => Some(compare::far::compare(seed, number, out)),
         "script" => Some(out.write_all(&texts::drawn(seed, number))),
         "script-lines" => Some(out.write_all(replay::answers(&texts::drawn(seed, number)).as_bytes())),
         _ => None,

@@ -6,17 +6,17 @@
 
 use crate::dispatcher::{Answer, Call};
 use crate::library::{Words, WORDS};
+use crate::paper::{MOST_TICKS, NO_PLACE, PLACES};
 use crate::trains::{free, Train};
 
-const PLACES: usize = 64;
-const NO_PLACE: usize = 64;
-const MOST_TICKS: u32 = 10_000_000;
 const WORDS_A_PLACE: usize = 4;
 
 /// Where the words behind the places stand.
 pub const LAST: usize = PLACES * WORDS_A_PLACE;
 pub const RUN_PLACE: usize = LAST + 1;
 pub const RUN_LEFT: usize = LAST + 2;
+
+const _: () = assert!(WORDS == RUN_LEFT + 1, "there are no words behind these");
 
 /// The count comes round after so many.
 const COUNTS: u64 = 1 << 32;

@@ -6,11 +6,11 @@
 
 use crate::divisors::greatest_common_divisor;
 use crate::draw::Draw;
+use crate::paper::{self, NUMBERS_A_TRAIN};
 
-const NUMBERS_A_TRAIN: usize = 6;
-const MOST_TRAINS: u64 = 64;
-const MOST_MULTIPLE: u64 = 1_000_000;
-const MOST_TICKS: u64 = 10_000_000;
+const MOST_TRAINS: u64 = paper::MOST_TRAINS as u64;
+const MOST_MULTIPLE: u64 = paper::MOST_MULTIPLE as u64;
+const MOST_TICKS: u64 = paper::MOST_TICKS as u64;
 const LARGEST: u64 = u32::MAX as u64;
 
 /// The longest row but for a few, beyond the 384 numbers that a table takes.

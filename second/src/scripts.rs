@@ -5,11 +5,12 @@
 
 use crate::dispatcher::{Answer, Call, Dispatcher, Train};
 use crate::draw::Draw;
+use crate::paper;
 use std::collections::VecDeque;
 use std::iter;
 
-const PLACES: u64 = 64;
-const MOST_TICKS: u64 = 10_000_000;
+const PLACES: u64 = paper::PLACES as u64;
+const MOST_TICKS: u64 = paper::MOST_TICKS as u64;
 const LARGEST: u64 = u32::MAX as u64;
 
 /// Delay, period and duration.

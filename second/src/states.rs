@@ -5,10 +5,8 @@
 use crate::dispatcher::Call;
 use crate::draw::Draw;
 use crate::library::WORDS;
+use crate::paper::{MOST_TICKS, PLACES};
 use crate::records::{Placed, Record, LAST, RUN_LEFT, RUN_PLACE};
-
-const PLACES: usize = 64;
-const MOST_TICKS: u32 = 10_000_000;
 
 /// Flags other than 0: a place holds a train with any of them.
 const FLAGS: [u32; 8] = [1, 1, 1, 1, 2, 256, 1 << 31, u32::MAX];

@@ -1,18 +1,14 @@
 //! Stored tables, from the paper's words. A file is taken apart in one pass, in which a byte that is not there counts
 //! as 0. So every question can be asked of any file: its faults stand in the paper's order, and the first is answered.
 
-use crate::tables::{self, fault, lowest, times, Time, Verdict, MOST_NUMBERS, NO_TRAIN, NUMBERS_A_TRAIN};
+use crate::paper::{BYTES_A_TRAIN, HEAD, LONGEST_FILE, MOST_NUMBERS, MOST_TRAINS, NO_TRAIN, NUMBERS_A_TRAIN};
+use crate::tables::{self, fault, lowest, times, Time, Verdict};
 
 const MARK: [u8; 3] = *b"STT";
 const VERSION: u16 = 1;
-const MOST_TRAINS: usize = 64;
-
-/// The mark, the version and the count.
-pub const HEAD: usize = 7;
-pub const BYTES_A_TRAIN: usize = 24;
 
 /// So many bytes of its input are judged by the program `verdict`: one more than the longest file has.
-pub const MOST_JUDGED: usize = 1_544;
+pub const MOST_JUDGED: usize = LONGEST_FILE + 1;
 
 /// The number of a refusal, and the train that it blames.
 pub type Refused = (u32, usize);

@@ -3,7 +3,7 @@
 
 use crate::draw::Draw;
 use crate::files::good;
-use crate::stored::{BYTES_A_TRAIN, HEAD};
+use crate::paper::{BYTES_A_TRAIN, HEAD};
 
 /// Files of no more trains than this get every other value at every place.
 const SMALL: usize = HEAD + 2 * BYTES_A_TRAIN;

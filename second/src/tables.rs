@@ -3,16 +3,10 @@
 //! them.
 
 use crate::divisors::{division_count, greatest_common_divisor};
+use crate::paper::{MOST_DIVISIONS_A_PAIR, MOST_MULTIPLE, MOST_NUMBERS, MOST_TICKS, NO_TRAIN, NUMBERS_A_TRAIN};
 use crate::trains::{earliest, free, Train};
 use std::collections::BTreeMap;
 use std::fmt;
-
-pub const NUMBERS_A_TRAIN: usize = 6;
-pub const MOST_NUMBERS: usize = 384;
-const MOST_MULTIPLE: u32 = 1_000_000;
-const MOST_TICKS: i128 = 10_000_000;
-const MOST_DIVISIONS_A_PAIR: u128 = 33;
-pub const NO_TRAIN: usize = 64;
 
 /// A table that repeats itself within so many ticks is walked tick by tick as well.
 const WALKED_TICKS: i128 = 2_000;
@@ -177,7 +171,7 @@ fn in_ticks(train: &[Time; 3], multiple: u32) -> Train {
 }
 
 fn too_long(train: &Train) -> bool {
-    [train.phase, train.period, train.duration].into_iter().any(|ticks| ticks > MOST_TICKS)
+    [train.phase, train.period, train.duration].into_iter().any(|ticks| ticks > MOST_TICKS.into())
 }
 
 /// The pairs in the paper's order, until one collides.

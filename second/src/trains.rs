@@ -2,6 +2,7 @@
 //! modulo a number where it is long.
 
 use crate::divisors::greatest_common_divisor;
+use crate::paper::MOST_TICKS;
 
 #[derive(Clone, Copy)]
 pub struct Train {
@@ -17,7 +18,7 @@ impl Train {
     }
 
     pub fn within_limits(self) -> bool {
-        let most = 10_000_000;
+        let most = MOST_TICKS.into();
         self.is_strict() && self.period <= most && self.phase <= most
     }
 

@@ -6,7 +6,7 @@ use super::memory::Lent;
 use super::{same, Difference, Tally};
 use crate::dispatcher::{Answer, Call};
 use crate::draw::Draw;
-use crate::library::{self, Parts, Words, WORDS};
+use crate::library::{self, header, Parts, Words, WORDS};
 use crate::records::Record;
 use crate::scripts::Script;
 
@@ -23,10 +23,6 @@ pub const ANSWERS: [&str; 11] = [
     "refuse 16",
     "refuse 17",
 ];
-
-const IDLE: u32 = 0;
-const STARTS: u32 = 1;
-const GOES_ON: u32 = 2;
 
 /// So many dispatchers are played by turns.
 const STAGES: u64 = 3;
@@ -110,9 +106,9 @@ pub fn parts(answer: Answer) -> Parts {
     match answer {
         Answer::Fresh | Answer::Withdrawn => Parts::done(0),
         Answer::Place(place) => Parts::done(place),
-        Answer::Idle => Parts::of_kind(IDLE, 0),
-        Answer::Starts(place) => Parts::of_kind(STARTS, place),
-        Answer::GoesOn(place) => Parts::of_kind(GOES_ON, place),
+        Answer::Idle => Parts::of_kind(header::IDLE, 0),
+        Answer::Starts(place) => Parts::of_kind(header::STARTS, place),
+        Answer::GoesOn(place) => Parts::of_kind(header::GOES_ON, place),
         Answer::Refuse(number, place) => Parts::refused((number, place)),
     }
 }

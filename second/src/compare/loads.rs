@@ -6,9 +6,10 @@ use super::{same, Difference, Tally};
 use crate::draw::Draw;
 use crate::files::{self, hex};
 use crate::library::{self, Parts};
+use crate::paper::NUMBERS_A_TRAIN;
 use crate::stored::{self, Refused};
 use crate::sweeps::Sweeps;
-use crate::tables::{Verdict, NUMBERS_A_TRAIN};
+use crate::tables::Verdict;
 
 const LOADED: [&str; 10] = [
     "loaded",

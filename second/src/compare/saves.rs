@@ -5,8 +5,8 @@ use super::{same, Difference, Tally};
 use crate::draw::Draw;
 use crate::files;
 use crate::library::{self, Parts};
+use crate::paper::{MOST_NUMBERS, NUMBERS_A_TRAIN};
 use crate::stored::{self, Refused};
-use crate::tables::{MOST_NUMBERS, NUMBERS_A_TRAIN};
 
 const ANSWERS: [&str; 6] = ["saved", "refuse 1", "refuse 2", "refuse 3", "refuse 4", "refuse 8"];
 

@@ -5,16 +5,14 @@ use super::memory::Lent;
 use super::{same, Difference, Tally};
 use crate::draw::Draw;
 use crate::files::hex;
-use crate::library::{self, Parts, FIGURES};
+use crate::library::{self, header, Figures, Parts, FIGURES};
+use crate::paper::NO_TRAIN;
 use crate::rows;
-use crate::tables::{self, Meeting, Verdict, NO_TRAIN};
+use crate::tables::{self, Meeting, Verdict};
 use std::fmt;
 
 /// The bytes of the longest line, as the header has it.
-const LONGEST_LINE: usize = 93;
-
-const ACCEPTED: u32 = 0;
-const COLLIDE: u32 = 1;
+const LONGEST_LINE: usize = header::LONGEST_LINE as usize;
 
 const ANSWERS: [&str; 8] =
     ["accept", "collide", "refuse 1", "refuse 2", "refuse 3", "refuse 4", "refuse 5", "refuse 6"];
@@ -37,7 +35,7 @@ pub enum Input<'a> {
 }
 
 impl Input<'_> {
-    fn judge(&self, figures: &mut [u64; FIGURES]) -> Parts {
+    fn judge(&self, figures: &mut Figures) -> Parts {
         match self {
             Input::Row(row) => library::judge(row, figures),
             Input::File(file) => library::judge_stored(file, figures),
@@ -80,16 +78,30 @@ pub fn check(input: &Input, verdict: &Verdict, draw: &mut Draw) -> Result<(), Di
     same(format_args!("the line, in {room} bytes, of {input}"), (answered, &lent), (right, written))
 }
 
-/// The answer to a verdict, and the figures that it writes.
+/// The answer to a verdict, and the figures that it writes, each at its index.
 fn figures(verdict: &Verdict) -> (Parts, Vec<u64>) {
     match verdict {
         Verdict::Accept { multiple, divisions } => {
-            (Parts::of_kind(ACCEPTED, 0), vec![u64::from(*multiple), *divisions as u64])
+            let figures = [(header::MULTIPLE, u64::from(*multiple)), (header::DIVISIONS, *divisions as u64)];
+            (Parts::of_kind(header::ACCEPTED, 0), indexed(figures))
         }
         Verdict::Collide { meeting: Meeting { first, second, tick }, multiple, divisions } => {
-            let pair = [*first as u64, *second as u64, *tick as u64];
-            (Parts::of_kind(COLLIDE, 0), [&[u64::from(*multiple), *divisions as u64][..], &pair].concat())
+            let figures = [
+                (header::MULTIPLE, u64::from(*multiple)),
+                (header::DIVISIONS, *divisions as u64),
+                (header::FIRST, *first as u64),
+                (header::SECOND, *second as u64),
+                (header::TICK, *tick as u64),
+            ];
+            (Parts::of_kind(header::COLLIDE, 0), indexed(figures))
         }
         Verdict::Refuse { number, train } => (Parts::refused((*number, *train)), Vec::new()),
     }
+}
+
+/// Figures at the front, in the order of their indices, none of which is left out.
+fn indexed<const COUNT: usize>(figures: [(u32, u64); COUNT]) -> Vec<u64> {
+    let mut front = vec![0; COUNT];
+    figures.into_iter().for_each(|(index, figure)| front[index as usize] = figure);
+    front
 }
