@@ -1,10 +1,10 @@
-//! The dispatcher in place: the proved calls on 259 words, beside the same by hand, on such words and on a struct.
+//! The dispatcher in place: the proved calls on its words, beside the same by hand, on such words and on a struct.
 
 use crate::by_hand::Dispatcher;
 use crate::clock::{calls, race, Batch};
 use crate::data::{self, EMPTY_WORDS};
 use crate::print;
-use crate::proved::Words;
+use crate::proved::{code, header, Words};
 use crate::{by_hand, proved};
 use std::hint::black_box;
 
@@ -108,7 +108,7 @@ fn placed<C: Calls>(trains: &[[u32; 3]]) -> C {
     let mut dispatcher = C::new();
     dispatcher.fresh(u32::MAX);
     for (place, &train) in trains.iter().enumerate() {
-        assert_eq!(dispatcher.admit(train), place as u64, "a train that is measured is admitted");
+        assert_eq!(dispatcher.admit(train), code(header::DONE, place), "a train that is measured is admitted");
     }
     dispatcher
 }
@@ -165,7 +165,7 @@ fn admissions<C: Calls>(trains: &[[u32; 3]]) -> impl FnMut(u64) -> u64 {
 fn admitted_and_withdrawn<C: Calls>(trains: &[[u32; 3]]) -> [Words; 2] {
     let mut dispatcher: C = placed(trains);
     let admitted = dispatcher.words();
-    assert_eq!(dispatcher.withdraw(trains.len() as u32 - 1), 0);
+    assert_eq!(dispatcher.withdraw(trains.len() as u32 - 1), code(header::DONE, 0));
     [admitted, dispatcher.words()]
 }
 
@@ -189,7 +189,7 @@ fn freshes<C: Calls>() -> impl FnMut(u64) -> u64 {
 }
 
 pub fn all() {
-    let longest = 10_000_000;
+    let longest = data::MOST_TICKS;
     print::title("dispatcher, ns a call", &["proved", "Rust on words", "proved/Rust", "Rust, a struct", "proved/that"]);
     step("step in mid-run, 1 train (0, 10000000, 10000000)", &[[0, longest, longest]]);
     let runs: Vec<[u32; 3]> = (0..data::TRAINS).map(|train| [train * 10_000, 640_000, 10_000]).collect();
@@ -200,6 +200,6 @@ pub fn all() {
     step("a start each step, 1 train (0, 1, 1)", &[[0, 1, 1]]);
     step("a start each step, 64 trains (i, 64, 1)", &data::in_turn(&[64]));
     admission("admit and withdraw, beside 63 trains (i, 64, 1)", &data::in_turn(&[64]));
-    admission("admit and withdraw, beside 63 trains (i, P, 1), the slowest", &data::in_turn(&data::SLOW_PERIODS));
+    admission("admit and withdraw, beside 63 trains, the most divisions", &data::found_admission());
     print_three("fresh", [&mut freshes::<Proved>(), &mut freshes::<ByHand>(), &mut freshes::<Dispatcher>()]);
 }

@@ -13,7 +13,7 @@ struct Division {
 }
 
 /// How many divisions a measured call makes.
-const CHAIN: usize = 24;
+const CHAIN: usize = 33;
 
 /// The instruction itself, so that the compiler neither narrows it nor leaves it out.
 fn remainder32(a: u32, b: u32) -> u32 {
@@ -48,9 +48,9 @@ fn each(call: impl FnMut() -> u64) -> f64 {
     time / CHAIN as f64
 }
 
-/// Divisions of 32 bits, on the slow periods of data.rs.
+/// Divisions of 32 bits, on the two periods that take the most of them.
 fn division32() -> Division {
-    let pair = data::SLOW_PERIODS;
+    let pair = data::MOST_DIVISIONS;
     Division {
         waiting: each(|| chain(remainder32, black_box(pair)).into()),
         apart: each(|| {
@@ -62,7 +62,7 @@ fn division32() -> Division {
 
 /// Divisions of 64 bits, on the same numbers.
 fn division64() -> Division {
-    let pair = data::SLOW_PERIODS.map(u64::from);
+    let pair = data::MOST_DIVISIONS.map(u64::from);
     Division {
         waiting: each(|| chain(remainder64, black_box(pair))),
         apart: each(|| {

@@ -4,7 +4,7 @@ use crate::clock::{calls, race};
 use crate::data::{self, BYTE, FIGURE, NUMBER};
 use crate::floor::Measured;
 use crate::print;
-use crate::proved::{Figures, FIGURES};
+use crate::proved::{header, value, Figures, DIVISIONS, FIGURES};
 use crate::{by_hand, proved};
 use std::hint::black_box;
 
@@ -15,9 +15,9 @@ trait Write<T, U>: Fn(&[T], &mut [U]) -> u64 {}
 impl<T, F: Fn(&[T], &mut Figures) -> u64> Judge<T> for F {}
 impl<T, U, F: Fn(&[T], &mut [U]) -> u64> Write<T, U> for F {}
 
-const LONGEST_STORED: usize = 1543;
-const LONGEST_ROW: usize = 384;
-const LONGEST_LINE: usize = 93;
+const LONGEST_STORED: usize = header::LONGEST_STORED as usize;
+const LONGEST_ROW: usize = header::LONGEST_ROW as usize;
+const LONGEST_LINE: usize = header::LONGEST_LINE as usize;
 
 /// One call of a judge, with all that it leaves in the figures.
 fn figures_of<T>(judge: impl Judge<T>, input: &[T]) -> (u64, Figures) {
@@ -30,7 +30,7 @@ fn verdicts<'a, T>(judge: impl Judge<T> + 'a, input: &'a [T]) -> impl FnMut(u64)
     let mut figures = [FIGURE; FIGURES];
     calls(move || {
         let answer = judge(black_box(input), &mut figures);
-        answer.wrapping_add(black_box(&figures)[1])
+        answer.wrapping_add(black_box(&figures)[DIVISIONS])
     })
 }
 
@@ -59,7 +59,7 @@ fn verdict(name: &'static str, row: Vec<u32>) -> Measured {
     assert_eq!(expected, figures_of(by_hand::judge, &row), "{name}");
     let [proved, by_hand] = race([&mut verdicts(proved::judge, &row), &mut verdicts(by_hand::judge, &row)]);
     print_pair(name, [proved, by_hand]);
-    Measured { name, row, counted: expected.1[1], proved }
+    Measured { name, row, counted: expected.1[DIVISIONS], proved }
 }
 
 fn verdict_stored(name: &str, bytes: &[u8]) {
@@ -97,9 +97,8 @@ fn load(name: &str, bytes: &[u8]) {
 /// The stored table of a row.
 fn stored(row: &[u32]) -> Vec<u8> {
     let mut bytes = vec![BYTE; LONGEST_STORED];
-    let answer = proved::save(row, &mut bytes);
-    assert!(answer >> 32 == 0, "a row that is measured is saved");
-    bytes.truncate(answer as usize);
+    let length = value(proved::save(row, &mut bytes), header::DONE);
+    bytes.truncate(length);
     bytes
 }
 
@@ -111,16 +110,15 @@ pub fn on_rows() -> Vec<Measured> {
     let accepted = vec![
         verdict("accepted: 64 trains (i, 64, 1)", data::whole(&data::in_turn(&[64]))),
         verdict("accepted: the same in thirteenths, unreduced", data::thirteenths()),
-        verdict(
-            "accepted: 64 trains (i, P, 1), P Fibonacci's, the slowest",
-            data::whole(&data::in_turn(&data::SLOW_PERIODS)),
-        ),
+        verdict("accepted: 64 trains, the most divisions that were found", data::whole(&data::found())),
     ];
     verdict("accepted: the empty row", Vec::new());
     verdict("refused early: 64 trains, the first without a denominator", data::early_refusal());
     verdict("refused late: 64 trains, the last without a period", data::late_refusal());
     verdict("collide early: (0, 10, 5) (3, 10, 5)", data::early_collision());
     verdict("collide late: (0, 9227465, 1) (5, 5702887, 1)", data::late_collision());
+    verdict("collide: 2 trains, the longest search for a common tick", data::longest_search());
+    verdict("collide: the same at the end of 64 trains, the longest known", data::longest_known());
     accepted
 }
 
@@ -129,6 +127,8 @@ pub fn on_files_and_lines() {
     print::title("verdict on a stored table, ns a call", &COLUMNS);
     verdict_stored("64 trains (i, 64, 1)", &stored(&data::whole(&data::in_turn(&[64]))));
     verdict_stored("64 trains in thirteenths", &stored(&data::thirteenths()));
+    verdict_stored("64 trains, the most divisions that were found", &stored(&data::whole(&data::found())));
+    verdict_stored("64 trains that collide, the longest known", &stored(&data::longest_known()));
 
     print::title("printed line of the verdict on a row, ns a call", &COLUMNS);
     let lines = [
@@ -146,7 +146,7 @@ pub fn kept() {
     let rows = [
         ("64 trains (i, 64, 1)", data::whole(&data::in_turn(&[64]))),
         ("64 trains in thirteenths, unreduced before they are saved", data::thirteenths()),
-        ("64 trains of Fibonacci's fractions, the slowest", data::slow_fractions()),
+        ("64 trains of Fibonacci's fractions, the most divisions", data::most_divisions_fractions()),
     ];
     print::title("save, ns a call", &COLUMNS);
     for (name, row) in &rows {

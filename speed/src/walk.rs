@@ -1,6 +1,8 @@
 //! What one does without the theorem: walk through the ticks, up to where the pattern repeats, and look for one that is claimed
 //! twice. The trains are in whole ticks. It allocates nothing in the walk: the ticks of `mark` are lent.
 
+use crate::data::TRAINS;
+
 #[derive(Clone, Copy)]
 struct Running {
     next: u64,
@@ -30,7 +32,7 @@ pub fn end(trains: &[[u32; 3]]) -> Option<u64> {
 /// Tick by tick, as a dispatcher goes: the first tick that two trains claim. Each train knows its next start.
 #[inline(never)]
 pub fn tick_by_tick(trains: &[[u32; 3]], end: u64) -> Option<u64> {
-    let mut running = [Running { next: 0, left: 0, period: 0, duration: 0 }; 64];
+    let mut running = [Running { next: 0, left: 0, period: 0, duration: 0 }; TRAINS as usize];
     let running = &mut running[..trains.len()];
     for (train, &[phase, period, duration]) in running.iter_mut().zip(trains) {
         *train = Running { next: phase.into(), left: 0, period, duration };

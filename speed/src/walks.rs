@@ -3,7 +3,7 @@
 use crate::clock::{calls, race, Batch};
 use crate::data::{self, FIGURE};
 use crate::print;
-use crate::proved::{self, FIGURES};
+use crate::proved::{self, header, FIGURES};
 use crate::walk;
 use std::hint::black_box;
 
@@ -21,7 +21,7 @@ fn table(name: &str, trains: &[[u32; 3]]) {
         return;
     };
     let mut lent = vec![false; end as usize];
-    assert_eq!(judged(1), 0, "{name} is accepted");
+    assert_eq!(judged(1), proved::code(header::ACCEPTED, 0), "{name} is accepted");
     let mut stepped = calls(|| u64::from(walk::tick_by_tick(black_box(trains), end).is_some()));
     let mut marked = calls(|| u64::from(walk::mark(black_box(trains), black_box(&mut lent))));
     let batches: [Batch; 3] = [&mut judged, &mut stepped, &mut marked];
@@ -40,5 +40,5 @@ pub fn all() {
     );
     table("64 trains (i, 64, 1)", &data::in_turn(&[64]));
     table("64 trains (i, P, 1), P in turn 8000 and 8192", &data::in_turn(&data::WALKED_PERIODS));
-    table("64 trains (i, P, 1), P Fibonacci's", &data::in_turn(&data::SLOW_PERIODS));
+    table("64 trains, the most divisions that were found", &data::found());
 }

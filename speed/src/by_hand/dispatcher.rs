@@ -1,10 +1,9 @@
 //! The dispatcher as a Rust program would keep it: a struct, changed in place.
 
 use super::numbers::{compare, Train};
-use super::{code, handed, Refusal};
+use super::words::{LAST, PLACE, PLACES};
+use super::{code, handed, header, Refusal};
 use crate::proved::{Words, WORDS};
-
-const PLACES: usize = 64;
 
 #[derive(Clone, Copy)]
 struct Placed {
@@ -41,7 +40,7 @@ impl Dispatcher {
             })
         });
         if let Some(place) = met {
-            return Err(Refusal::of(15, place));
+            return Err(Refusal::of(header::REFUSAL_COLLISION, place));
         }
         self.places[empty] =
             Some(Placed { next: count.wrapping_add(train.phase), period: train.period, duration: train.duration });
@@ -75,7 +74,7 @@ impl Dispatcher {
         self.last = count;
         if self.left > 0 {
             self.left -= 1;
-            return code(2, self.runs as usize);
+            return code(header::GOES_ON, self.runs as usize);
         }
         for (place, there) in self.places.iter_mut().enumerate() {
             let Some(placed) = there.as_mut().filter(|placed| placed.next == count) else {
@@ -84,20 +83,20 @@ impl Dispatcher {
             placed.next = count.wrapping_add(placed.period);
             self.left = placed.duration.saturating_sub(1);
             self.runs = place as u32;
-            return code(1, place);
+            return code(header::STARTS, place);
         }
-        code(0, 0)
+        code(header::IDLE, 0)
     }
 
     /// The words that stand for it.
     pub fn words(&self) -> Words {
         let mut words = [0; WORDS];
-        for (here, place) in words.chunks_exact_mut(4).zip(&self.places) {
+        for (here, place) in words.chunks_exact_mut(PLACE).zip(&self.places) {
             if let Some(placed) = place {
                 here.copy_from_slice(&[1, placed.next, placed.period, placed.duration]);
             }
         }
-        words[256..].copy_from_slice(&[self.last, self.runs, self.left]);
+        words[LAST..].copy_from_slice(&[self.last, self.runs, self.left]);
         words
     }
 }

@@ -8,14 +8,14 @@ mod stored;
 mod verdict;
 mod words;
 
+use crate::proved::{code, header};
+
 pub use dispatcher::Dispatcher;
 pub use line::line;
 pub use numbers::common_divisor;
 pub use stored::{judge_stored, load, save};
 pub use verdict::judge;
 pub use words::{admit, fresh, step, withdraw};
-
-const NO_PLACE: u32 = 64;
 
 /// A refusal by its number, with the train or the place that it names.
 #[derive(Clone, Copy)]
@@ -25,18 +25,18 @@ struct Refusal {
 }
 
 impl Refusal {
-    const TRAIN_COUNT: Refusal = Refusal::of_none(1);
-    const BUFFER_TOO_SHORT: Refusal = Refusal::of_none(8);
-    const WRONG_MARK: Refusal = Refusal::of_none(9);
-    const WRONG_VERSION: Refusal = Refusal::of_none(10);
-    const WRONG_LENGTH: Refusal = Refusal::of_none(11);
-    const NOT_A_TRAIN: Refusal = Refusal::of_none(13);
-    const NO_EMPTY_PLACE: Refusal = Refusal::of_none(14);
-    const NO_TRAIN_THERE: Refusal = Refusal::of_none(16);
-    const WRONG_COUNT: Refusal = Refusal::of_none(17);
+    const TRAIN_COUNT: Refusal = Refusal::of_none(header::REFUSAL_TRAIN_COUNT);
+    const BUFFER_TOO_SHORT: Refusal = Refusal::of_none(header::REFUSAL_BUFFER_TOO_SHORT);
+    const WRONG_MARK: Refusal = Refusal::of_none(header::REFUSAL_WRONG_MARK);
+    const WRONG_VERSION: Refusal = Refusal::of_none(header::REFUSAL_WRONG_VERSION);
+    const WRONG_LENGTH: Refusal = Refusal::of_none(header::REFUSAL_WRONG_LENGTH);
+    const NOT_A_TRAIN: Refusal = Refusal::of_none(header::REFUSAL_NOT_A_TRAIN);
+    const NO_EMPTY_PLACE: Refusal = Refusal::of_none(header::REFUSAL_NO_EMPTY_PLACE);
+    const NO_TRAIN_THERE: Refusal = Refusal::of_none(header::REFUSAL_NO_TRAIN_THERE);
+    const WRONG_COUNT: Refusal = Refusal::of_none(header::REFUSAL_WRONG_COUNT);
 
     const fn of_none(number: u32) -> Refusal {
-        Refusal { number, place: NO_PLACE }
+        Refusal { number, place: header::NO_PLACE }
     }
 
     fn of(number: u32, place: usize) -> Refusal {
@@ -44,16 +44,11 @@ impl Refusal {
     }
 
     fn code(self) -> u64 {
-        u64::from(self.number) << 40 | u64::from(self.place)
+        u64::from(self.number) << 40 | code(header::REFUSED, self.place as usize)
     }
 }
 
-/// The number that a call hands back where it is not refused.
-fn code(kind: u64, value: usize) -> u64 {
-    kind << 32 | value as u64
-}
-
-/// The number that a call hands back that has one kind of answer.
+/// The number that a call hands back that is done or refused.
 fn handed(answer: Result<usize, Refusal>) -> u64 {
-    answer.map_or_else(Refusal::code, |value| code(0, value))
+    answer.map_or_else(Refusal::code, |value| code(header::DONE, value))
 }

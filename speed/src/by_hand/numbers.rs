@@ -1,7 +1,6 @@
 //! Euclid's method by remainders, fractions of 32 bits, and Korst's test of two trains.
 
-pub const MAX_TICKS: u32 = 10_000_000;
-const LIMIT: u64 = 1_000_000;
+use crate::proved::header::{MAX_MULTIPLE, MAX_TICKS};
 
 /// The greatest common divisor of a and b, and the remainders that it took, larger number first.
 pub fn common_divisor(a: u32, b: u32) -> (u32, u32) {
@@ -47,7 +46,7 @@ impl Fraction {
 pub fn multiple(a: u32, b: u32) -> Option<u32> {
     let (divisor, _) = common_divisor(a, b);
     let multiple = u64::from(a / divisor) * u64::from(b);
-    (multiple <= LIMIT).then_some(multiple as u32)
+    (multiple <= MAX_MULTIPLE.into()).then_some(multiple as u32)
 }
 
 #[derive(Clone, Copy, Default)]

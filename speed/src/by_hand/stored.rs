@@ -2,7 +2,7 @@
 
 use super::numbers::Fraction;
 use super::verdict::{check, hand, verdict, Entry, CAPACITY, NUMBERS};
-use super::{handed, Refusal};
+use super::{handed, header, Refusal};
 use crate::proved::Figures;
 
 const MARK: &[u8; 3] = b"STT";
@@ -73,10 +73,10 @@ fn records(bytes: &[u8]) -> Result<&[Record], Refusal> {
 fn check_record(entry: Entry, position: usize) -> Result<(), Refusal> {
     for time in entry.times() {
         if time.denominator == 0 {
-            return Err(Refusal::of(2, position));
+            return Err(Refusal::of(header::REFUSAL_ZERO_DENOMINATOR, position));
         }
         if !time.is_lowest() {
-            return Err(Refusal::of(12, position));
+            return Err(Refusal::of(header::REFUSAL_NOT_LOWEST_TERMS, position));
         }
     }
     entry.check(position)

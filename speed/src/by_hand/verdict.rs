@@ -1,11 +1,11 @@
 //! The verdict on a row: its refusals, the common tick, the trains in ticks, and then every pair up to the first that collides.
 
 use super::numbers::{compare, earliest, multiple, Fraction, Train};
-use super::{code, Refusal};
+use super::{code, header, Refusal};
 use crate::proved::Figures;
 
-pub const NUMBERS: usize = 6;
-pub const CAPACITY: usize = 64;
+pub const NUMBERS: usize = header::NUMBERS as usize;
+pub const CAPACITY: usize = header::TRAINS as usize;
 
 #[derive(Clone, Copy)]
 pub struct Entry {
@@ -22,13 +22,13 @@ impl Entry {
     /// Refusals 2, 3 and 4, for the train at a position.
     pub fn check(self, position: usize) -> Result<(), Refusal> {
         if self.times().iter().any(|time| time.denominator == 0) {
-            return Err(Refusal::of(2, position));
+            return Err(Refusal::of(header::REFUSAL_ZERO_DENOMINATOR, position));
         }
         if self.period.numerator == 0 || self.duration.numerator == 0 {
-            return Err(Refusal::of(3, position));
+            return Err(Refusal::of(header::REFUSAL_ZERO_TIME, position));
         }
         if self.duration.above(self.period) {
-            return Err(Refusal::of(4, position));
+            return Err(Refusal::of(header::REFUSAL_DURATION_ABOVE_PERIOD, position));
         }
         Ok(())
     }
@@ -57,7 +57,8 @@ fn common_multiple(row: &[u32]) -> Result<u32, Refusal> {
     for (position, entry) in entries(row).enumerate() {
         let lowest = entry.times().map(Fraction::lowest);
         for time in lowest {
-            running = multiple(running, time.denominator).ok_or(Refusal::of(5, position))?;
+            let too_fine = Refusal::of(header::REFUSAL_TICK_TOO_FINE, position);
+            running = multiple(running, time.denominator).ok_or(too_fine)?;
         }
     }
     Ok(running)
@@ -66,7 +67,7 @@ fn common_multiple(row: &[u32]) -> Result<u32, Refusal> {
 /// Puts the trains in ticks to the front of the array, and hands them back.
 fn in_ticks<'a>(row: &[u32], multiple: u32, trains: &'a mut [Train; CAPACITY]) -> Result<&'a [Train], Refusal> {
     for (position, (entry, train)) in entries(row).zip(trains.iter_mut()).enumerate() {
-        let too_long = Refusal::of(6, position);
+        let too_long = Refusal::of(header::REFUSAL_TIME_TOO_LONG, position);
         *train = Train {
             phase: entry.phase.ticks(multiple).ok_or(too_long)?,
             period: entry.period.ticks(multiple).ok_or(too_long)?,
@@ -123,15 +124,15 @@ pub fn hand(verdict: Result<Verdict, Refusal>, figures: &mut Figures) -> u64 {
         Err(refusal) => return refusal.code(),
         Ok(verdict) => verdict,
     };
-    figures[0] = verdict.multiple.into();
-    figures[1] = verdict.divisions.into();
+    figures[header::MULTIPLE as usize] = verdict.multiple.into();
+    figures[header::DIVISIONS as usize] = verdict.divisions.into();
     let Some(meeting) = verdict.meeting else {
-        return code(0, 0);
+        return code(header::ACCEPTED, 0);
     };
-    figures[2] = meeting.first as u64;
-    figures[3] = meeting.second as u64;
-    figures[4] = meeting.tick;
-    code(1, 0)
+    figures[header::FIRST as usize] = meeting.first as u64;
+    figures[header::SECOND as usize] = meeting.second as u64;
+    figures[header::TICK as usize] = meeting.tick;
+    code(header::COLLIDE, 0)
 }
 
 #[inline(never)]

@@ -1,13 +1,13 @@
-//! The dispatcher in place in 259 words: 64 places of four words each (whether there is a train, its next count, its period,
-//! its duration), then the last count, the place of the run in progress and how many of its ticks are still to come.
+//! The dispatcher in place in its words: four for each place (whether there is a train, its next count, its period and its
+//! duration), then the last count, the place of the run in progress and how many of its ticks are still to come.
 
 use super::numbers::{compare, Train};
-use super::{code, handed, Refusal};
+use super::{code, handed, header, Refusal};
 use crate::proved::{Words, WORDS};
 
-const PLACES: usize = 64;
-const PLACE: usize = 4;
-const LAST: usize = PLACE * PLACES;
+pub const PLACES: usize = header::PLACES as usize;
+pub const PLACE: usize = 4;
+pub const LAST: usize = PLACE * PLACES;
 const RUNS: usize = LAST + 1;
 const LEFT: usize = LAST + 2;
 
@@ -33,7 +33,7 @@ fn admitted(words: &mut Words, train: Train) -> Result<usize, Refusal> {
         place[0] != 0 && !compare(&there, &train).0
     });
     if let Some(place) = met {
-        return Err(Refusal::of(15, place));
+        return Err(Refusal::of(header::REFUSAL_COLLISION, place));
     }
     let place = &mut words[empty * PLACE..][..PLACE];
     place.copy_from_slice(&[1, count.wrapping_add(train.phase), train.period, train.duration]);
@@ -70,14 +70,14 @@ pub fn step(words: &mut Words, count: u32) -> u64 {
     words[LAST] = count;
     if words[LEFT] > 0 {
         words[LEFT] -= 1;
-        return code(2, words[RUNS] as usize);
+        return code(header::GOES_ON, words[RUNS] as usize);
     }
     let Some(due) = lowest(words, |place| place[0] != 0 && place[1] == count) else {
-        return code(0, 0);
+        return code(header::IDLE, 0);
     };
     let place = &mut words[due * PLACE..][..PLACE];
     place[1] = count.wrapping_add(place[2]);
     words[LEFT] = place[3].saturating_sub(1);
     words[RUNS] = due as u32;
-    code(1, due)
+    code(header::STARTS, due)
 }
