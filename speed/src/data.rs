@@ -23,6 +23,9 @@ const MOST_DIVISIONS_FREE: [u32; 2] = [2 * 3_524_578, 2 * 2_178_309];
 /// Two trains that first meet at the last of the strokes at which they can meet, the 10,000,000th: no search is longer.
 const LONGEST_SEARCH: [[u32; 3]; 2] = [[0, MOST_TICKS, 1], [MOST_TICKS - 1, MOST_TICKS - 1, 1]];
 
+/// The largest prime that a table takes as its L. As a denominator it makes reading a table slower too.
+pub const PRIME: u32 = 999_983;
+
 /// Two periods with a common period of 1,024,000 ticks.
 pub const WALKED_PERIODS: [u32; 2] = [8_000, 8_192];
 

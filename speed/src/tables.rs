@@ -111,6 +111,7 @@ pub fn on_rows() -> Vec<Measured> {
         verdict("accepted: 64 trains (i, 64, 1)", data::whole(&data::in_turn(&[64]))),
         verdict("accepted: the same in thirteenths, unreduced", data::thirteenths()),
         verdict("accepted: 64 trains, the most divisions that were found", data::whole(&data::found())),
+        verdict("accepted: the same in ticks of 1/999983 ms", data::scaled(&data::found(), 1, data::PRIME)),
     ];
     verdict("accepted: the empty row", Vec::new());
     verdict("refused early: 64 trains, the first without a denominator", data::early_refusal());
