@@ -2,7 +2,7 @@
 //! place of the paper where a program is likely to go wrong. What they deserve is not settled here, but in `stored`.
 
 use crate::draw::Draw;
-use crate::paper::{BYTES_A_TRAIN, HEAD, NUMBERS_A_TRAIN};
+use crate::paper::{BYTES_A_TRAIN, HEAD, MOST_NUMBERS, MOST_TRAINS, NUMBERS_A_TRAIN};
 use crate::rows;
 use crate::stored::{load, packed, save};
 use crate::tables::{lowest, Time};
@@ -90,7 +90,9 @@ fn any_row(draw: &mut Draw) -> Vec<u32> {
 
 /// Good trains, as many as a table takes or nearly so, and now and then not a whole number of them.
 fn row_at_the_limit(draw: &mut Draw) -> Vec<u32> {
-    let length = draw.of(&[378, 383, 384, 384, 384, 385, 390, LONGEST_ROW]);
+    let most = MOST_NUMBERS;
+    let near = [most - NUMBERS_A_TRAIN, most - 1, most, most, most, most + 1, most + NUMBERS_A_TRAIN, LONGEST_ROW];
+    let length = draw.of(&near);
     lowest_row(draw).into_iter().cycle().take(length).collect()
 }
 
@@ -144,7 +146,8 @@ fn undamaged(draw: &mut Draw) -> Vec<u8> {
 /// As many trains as a table takes or more, in a file of the length that its count asks for.
 fn at_the_limit(draw: &mut Draw) -> Vec<u8> {
     let far = if draw.once_in(100) { draw.of(&[256 + 64, 2_731, u16::MAX.into()]) } else { 66 };
-    let count = draw.of(&[63, 64, 64, 64, 65, far]);
+    let most = MOST_TRAINS;
+    let count = draw.of(&[most - 1, most, most, most, most + 1, far]);
     let row = lowest_row(draw).into_iter().cycle().take(count * NUMBERS_A_TRAIN).collect::<Vec<_>>();
     packed(&row)
 }

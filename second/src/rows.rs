@@ -6,14 +6,14 @@
 
 use crate::divisors::greatest_common_divisor;
 use crate::draw::Draw;
-use crate::paper::{self, NUMBERS_A_TRAIN};
+use crate::paper::{self, MOST_NUMBERS, NUMBERS_A_TRAIN};
 
 const MOST_TRAINS: u64 = paper::MOST_TRAINS as u64;
 const MOST_MULTIPLE: u64 = paper::MOST_MULTIPLE as u64;
 const MOST_TICKS: u64 = paper::MOST_TICKS as u64;
 const LARGEST: u64 = u32::MAX as u64;
 
-/// The longest row but for a few, beyond the 384 numbers that a table takes.
+/// The longest row but for a few, beyond the numbers that a table takes.
 const LONGEST: u64 = 400;
 
 /// Lengths far beyond, the last of which is six trains in 16 bits.
@@ -315,7 +315,7 @@ fn harm(draw: &mut Draw, row: &mut Vec<u32>, at: usize, number: u32) {
             if draw.once_in(2) {
                 row.truncate(row.len() - draw.between(1, 5) as usize);
             } else {
-                row.resize(draw.between(385, LONGEST) as usize, 1);
+                row.resize(draw.between(MOST_NUMBERS as u64 + 1, LONGEST) as usize, 1);
             }
         }
     }
