@@ -1,7 +1,7 @@
 -- Every answer that the calls can give has room in the number that is handed back, and is told by it.
 -- Core: told, refused-fits, short-row. The rest follows from these, from Naming and from Longest.
 -- Assumes nothing.
-use Prim.Native.Nat.{ℕ, _/_, _%_, _^_, _<_, _≤_}
+use Prim.Native.Nat.{ℕ, _+_, _/_, _%_, _^_, _<_, _≤_}
 use mathlib.Core.Path.{_≡_, refl, ap, subst}
 use mathlib.Core.Bool.{Bool, true, false, cond}
 use mathlib.Core.List.{List}

@@ -29,11 +29,11 @@ use Rattle.line.proofs.Notation.{decimal-u64, decimal-u32}
 -- ---- How long
 
 -- one number more
-numbers-length : (n : ℕ) (ns : List ℕ) → length (numbers (n ∷ ns)) ≡ 1 + length (decimal n) + length (numbers ns)
+pub numbers-length : (n : ℕ) (ns : List ℕ) → length (numbers (n ∷ ns)) ≡ 1 + length (decimal n) + length (numbers ns)
 unfolding numbers
 numbers-length n ns = omega (arith, length-append (decimal n) (numbers ns))
 
-none-length : length (numbers []) ≡ 1
+pub none-length : length (numbers []) ≡ 1
 unfolding numbers
 none-length = refl
 
@@ -86,7 +86,7 @@ line-fits (refuse number train) w =
 
 -- ---- To have written
 
-answer-room : (text : List ℕ) (at room : ℕ) → at + length text ≤ room → answerFor text at room ≡ Length (at + length text)
+pub answer-room : (text : List ℕ) (at room : ℕ) → at + length text ≤ room → answerFor text at room ≡ Length (at + length text)
 unfolding answerFor
 answer-room text at room h = simp (le-ltb room (at + length text) h)
 

@@ -34,7 +34,7 @@ unfolding numbers
 numbers-stop [] = omega arith
 numbers-stop (n ∷ ns) = omega arith
 
-numbers-tell : (ns ms : List ℕ) → numbers ns ≡ numbers ms → ns ≡ ms
+pub numbers-tell : (ns ms : List ℕ) → numbers ns ≡ numbers ms → ns ≡ ms
 unfolding numbers
 numbers-tell [] [] e = refl
 numbers-tell [] (m ∷ ms) e = absurd (omega (arith, ap head e))

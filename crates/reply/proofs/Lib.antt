@@ -1,0 +1,4 @@
+-- The laws of reply. Promises gathers what specs/Promises.antt states; the others serve the functions.
+pub mod Texts
+pub mod Replies
+pub mod Promises

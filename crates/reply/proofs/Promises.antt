@@ -1,0 +1,24 @@
+-- The proof of what specs/Promises.antt states.
+-- Assumes nothing.
+use mathlib.Core.Path.{refl}
+use Rattle.line.specs.Answer.{leadingWithin, decimal, numbers}
+use Rattle.reply.specs.Lines.{lineOf}
+use Rattle.reply.specs.Promises.{Promises}
+use Rattle.reply.proofs.Texts as texts
+
+pub promises : Promises
+unfolding leadingWithin decimal numbers lineOf
+promises =
+    record {
+      line-tells = texts.line-tells;
+      line-fits = texts.line-fits;
+      line-reaches = refl;
+      fresh-example = refl;
+      place-example = refl;
+      withdrawn-example = refl;
+      idle-example = refl;
+      starts-example = refl;
+      goes-on-example = refl;
+      refuse-example = refl;
+      bad-example = refl;
+    }
