@@ -7,7 +7,6 @@ use native.Mathlib.Decide.{decLt}
 use native.Mathlib.Nat.{div-le-self, mul-le-mul, mul-le-mul-right, max-le, le-of-dvd, dvd-refl}
 use native.Mathlib.Omega.{arith}
 use lib.ListN.{length}
-use borrow.Author.Tests.{le-ltb}
 use Rattle.euclid.specs.Answer.{gcd, lcm}
 use Rattle.euclid.proofs.Multiple.{lcm-is}
 use Rattle.train.specs.declared.Train.{Train}
@@ -16,9 +15,9 @@ use Rattle.train.specs.Answer.{reach}
 use Rattle.judge.specs.declared.Verdict.{Verdict}
 use Rattle.judge.specs.Paper.{Shown, accept, collide, refuse}
 use Rattle.line.specs.declared.Written.the-variants as writes
-use Rattle.line.specs.Answer.{acceptWord, refuseWord, line, lineOf, answerFor, written}
+use Rattle.line.specs.Answer.{acceptWord, refuseWord, line, lineOf, written}
 use Rattle.line.proofs.Notation.{decimal-length}
-use Rattle.line.proofs.Lines.{two-length, collide-length}
+use Rattle.line.proofs.Lines.{two-length, collide-length, answer-room}
 use Rattle.bench.specs.Answer.{longestLine}
 
 -- Positions and the number of a refusal have at most two digits, a tick 14, L seven and a division count five.
@@ -78,5 +77,4 @@ short-line (refuse number train) w =
 -- as much room as the longest line has is enough for a line that is no longer
 pub room-suffices :
     (v : Verdict) (room : ℕ) → length (lineOf v) ≤ longestLine → longestLine ≤ room → written v room ≡ writes.Length (length (lineOf v))
-unfolding answerFor
-room-suffices v room h enough = simp (le-ltb room (length (lineOf v)) (omega arith))
+room-suffices v room h enough = answer-room (lineOf v) 0 room (omega arith)
