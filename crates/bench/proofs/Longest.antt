@@ -1,8 +1,8 @@
 -- How long the numbers of a verdict on a table are in print, and its line with them.
 -- Core: soon, and short-line. The rest follows from these.
 -- Assumes nothing.
-use Prim.Native.Nat.{ℕ, _*_, _/_, _^_, _<_, _≤_, _∣_, max}
-use mathlib.Core.Path.{_≡_, subst}
+use Prim.Native.Nat.{ℕ, _+_, _*_, _/_, _^_, _<_, _≤_, _∣_, max}
+use mathlib.Core.Path.{_≡_, subst, ap, _∙_}
 use native.Mathlib.Decide.{decLt}
 use native.Mathlib.Nat.{div-le-self, mul-le-mul, mul-le-mul-right, max-le, le-of-dvd, dvd-refl}
 use native.Mathlib.Omega.{arith}
@@ -77,4 +77,6 @@ short-line (refuse number train) w =
 -- as much room as the longest line has is enough for a line that is no longer
 pub room-suffices :
     (v : Verdict) (room : ℕ) → length (lineOf v) ≤ longestLine → longestLine ≤ room → written v room ≡ writes.Length (length (lineOf v))
-room-suffices v room h enough = answer-room (lineOf v) 0 room (omega arith)
+room-suffices v room h enough =
+    let from-the-front : 0 + length (lineOf v) ≡ length (lineOf v) = omega arith in
+    answer-room (lineOf v) 0 room (omega arith) ∙ ap (λ (n : ℕ). writes.Length n) from-the-front
