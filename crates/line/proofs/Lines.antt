@@ -3,13 +3,14 @@
 -- Assumes nothing.
 use Prim.Native.Nat.{ℕ, _+_, _<_, _≤_, _^_}
 use mathlib.Core.Path.{_≡_, refl, sym, ap, subst, _∙_}
-use mathlib.Core.Bool.{Bool, true, false, not}
+use mathlib.Core.Bool.{Bool, true, false, not, cond}
+use mathlib.Core.Logic.{_↔_}
 use mathlib.Core.List.{List, [], _∷_, _++_}
 use native.Mathlib.Nat.{zero-add}
 use native.Mathlib.Omega.{arith}
-use lib.Dec.{leb}
+use lib.Dec.{ltb, leb}
 use lib.ListN.{length, length-append}
-use borrow.Author.Tests.{lt-ltb, le-ltb, leb-true, leb-false, not-true, not-false}
+use borrow.Author.Tests.{ltb-true, lt-ltb, le-ltb, leb-true, leb-false, not-true, not-false}
 use Rattle.refusal.specs.declared.Refusal.{Refusal}
 use Rattle.refusal.specs.declared.Refusal.the-variants.{BufferTooShort}
 use Rattle.refusal.specs.Paper as refusals
@@ -21,7 +22,7 @@ use Rattle.judge.specs.Paper.{Shown, accept, collide, refuse, paper}
 use Rattle.line.specs.declared.Written.{Written}
 use Rattle.line.specs.declared.Written.the-variants.{Length, Refused}
 use Rattle.line.specs.Text.{Within}
-use Rattle.line.specs.Answer.{decimal, numbers, textOf, acceptWord, collideWord, refuseWord, line, lineOf, longest, answerFor, bufferAfter, written, writtenIn}
+use Rattle.line.specs.Answer.{decimal, numbers, textOf, acceptWord, collideWord, refuseWord, line, lineOf, longest, answerFor, bufferAfter, paperWritten, written, writtenIn}
 use Rattle.lent.specs.Lent.{over}
 use Rattle.lent.proofs.Over.{over-then}
 use Rattle.line.proofs.Notation.{decimal-u64, decimal-u32}
@@ -90,6 +91,44 @@ pub answer-room : (text : List ℕ) (at room : ℕ) → at + length text ≤ roo
 unfolding answerFor
 answer-room text at room h = simp (le-ltb room (at + length text) h)
 
+answer-none : (text : List ℕ) (at room : ℕ) → room < at + length text → answerFor text at room ≡ Refused BufferTooShort
+unfolding answerFor
+answer-none text at room h = simp (lt-ltb room (at + length text) h)
+
+-- 1 for a refusal
+abbrev isRefuse : refusals.Said → ℕ
+isRefuse refusals.passes = 0
+isRefuse (refusals.answers value) = 0
+isRefuse (refusals.refuse number place) = 1
+
+pub put-short :
+    (text : List ℕ) (at room : ℕ) → (paperWritten (answerFor text at room) ≡ refusals.refuse 8 64) ↔ (room < at + length text)
+unfolding answerFor
+put-short text at room = (
+  (λ e. go (ltb room (at + length text)) refl e),
+  (λ h. ap paperWritten (answer-none text at room h)),
+)
+  where
+    go :
+        (b : Bool) → ltb room (at + length text) ≡ b →
+        paperWritten (cond b (Refused BufferTooShort) (Length (at + length text))) ≡ refusals.refuse 8 64 → room < at + length text
+    go true t e = ltb-true room (at + length text) t
+    go false t e = absurd (omega (arith, ap isRefuse e))
+
+pub put-answers :
+    (text : List ℕ) (at room : ℕ) → at + length text ≤ room → paperWritten (answerFor text at room) ≡ refusals.answers (at + length text)
+put-answers text at room h = ap paperWritten (answer-room text at room h)
+
+pub write-short : (v : Verdict) (room : ℕ) → (paperWritten (written v room) ≡ refusals.refuse 8 64) ↔ (room < length (lineOf v))
+write-short v room =
+    let at-front = put-short (lineOf v) 0 room in
+    ((λ e. let h : room < 0 + length (lineOf v) = at-front .0 e in omega arith), (λ h. at-front .1 (omega arith)))
+
+pub write-answers :
+    (v : Verdict) (room : ℕ) → length (lineOf v) ≤ room → paperWritten (written v room) ≡ refusals.answers (length (lineOf v))
+write-answers v room h =
+    put-answers (lineOf v) 0 room (omega arith) ∙ ap refusals.answers (zero-add (length (lineOf v)))
+
 -- what the test of the numbers says
 pub numbers-fit : (n room : ℕ) (fits : Bool) → fits ≡ leb n room → not fits ≡ false → n ≤ room
 numbers-fit n room fits e t = leb-true n room (sym e ∙ not-false fits t)
@@ -101,8 +140,8 @@ numbers-short n room fits e t = leb-false n room (sym e ∙ not-true fits t)
 pub put-none :
     (text before : List ℕ) (at : ℕ) → length before < at + length text →
     (Refused BufferTooShort ≡ answerFor text at (length before)) × (before ≡ bufferAfter (Refused BufferTooShort) text at before)
-unfolding answerFor bufferAfter
-put-none text before at h = (simp (lt-ltb (length before) (at + length text) h), refl)
+unfolding bufferAfter
+put-none text before at h = (sym (answer-none text at (length before) h), refl)
 
 -- a word, and the numbers behind it
 pub put-all :

@@ -12,6 +12,7 @@
 --     longest                  the length of the longest line
 --     answerFor text at room   the answer to a text that is to be written at an index of a buffer of that length
 --     bufferAfter answer text at before    the buffer after that answer
+--     paperWritten answer      what the paper has of an answer: where the line ends, or the refusal
 --     written verdict room     what `write` answers
 --     writtenIn answer verdict before   what it leaves in the buffer
 use Prim.Native.Nat.{ℕ, zero, suc, _+_, _/_, _%_}
@@ -21,6 +22,7 @@ use lib.Dec.{ltb}
 use lib.ListN.{length}
 use Rattle.lent.specs.Lent.{over}
 use Rattle.refusal.specs.declared.Refusal.the-variants.{BufferTooShort}
+use Rattle.refusal.specs.Paper.{Said, answers, refusing}
 use Rattle.judge.specs.declared.Verdict.{Verdict}
 use Rattle.judge.specs.Paper.{Shown, accept, collide, refuse, paper}
 use Rattle.line.specs.declared.Written.{Written}
@@ -95,6 +97,11 @@ answerFor text at room = cond (ltb room (at + length text)) (Refused BufferTooSh
 unfoldable pub bufferAfter : Written → (text : List ℕ) (at : ℕ) (before : List ℕ) → List ℕ
 bufferAfter (Length end) text at before = over before at text
 bufferAfter (Refused refusal) text at before = before
+
+-- What the paper has of an answer.
+abbrev pub paperWritten : Written → Said
+paperWritten (Length end) = answers end
+paperWritten (Refused refusal) = refusing refusal
 
 -- What `write` answers: the line is written to the front.
 abbrev pub written : (verdict : Verdict) (room : ℕ) → Written
