@@ -35,9 +35,9 @@ returns c =
     let refusal = number .before .before .args .refusal in
     wrote-text _ _ _ _ _ _ (
       omega (arith, number .number .ensures, number .number .ok),
-      omega (arith, place .place .ensures, place .place .ok),
+      omega (arith, place .place .ensures .0, place .place .ok),
     )
-    (refuse-line refusal _ _ (number .number .ensures) (place .place .ensures)) (put .put .ensures .0) (put .put .ensures .1)
+    (refuse-line refusal _ _ (number .number .ensures) (place .place .ensures .0)) (put .put .ensures .0) (put .put .ensures .1)
 
 pub put-refusal-spec : {M : Type 1} → statement M
 put-refusal-spec =
