@@ -10,7 +10,7 @@ use Rattle.fraction.specs.Value.{SameValue, LowestTerms, Above, IsTicks,
 use Rattle.fraction.specs.Answer.{lowest, isLowest, above, wholeTicks, limited, commonMultiple, running}
 
 pub record Promises : Type 0 where
-  -- F1. Lowest terms are the same number, are lowest, and are the only such fraction; 0/m is 0/1; twice is once.
+  -- Lowest terms are the same number, are lowest, and are the only such fraction; 0/m is 0/1; twice is once.
   pub lowest-same : (f : Fraction) → SameValue f (lowest f)
   pub lowest-terms : (f : Fraction) → 0 < f .denominator → LowestTerms (lowest f)
   pub lowest-only : (f h : Fraction) → 0 < f .denominator → SameValue f h → LowestTerms h → h ≡ lowest f
@@ -18,12 +18,12 @@ pub record Promises : Type 0 where
   pub lowest-twice : (f : Fraction) → lowest (lowest f) ≡ lowest f
   -- The test for lowest terms finds just those.
   pub is-lowest : (f : Fraction) → (isLowest f ≡ true) ↔ LowestTerms f
-  -- F2. L is the least common multiple of the denominators, and taking them one after the other finds it, or that it is above the limit,
+  -- L is the least common multiple of the denominators, and taking them one after the other finds it, or that it is above the limit,
   -- where no denominator is 0, which is to say that L is not.
   pub multiple-is : (ds : List ℕ) → IsCommonMultiple ds (commonMultiple ds)
   pub multiple-only : (ds : List ℕ) (l : ℕ) → IsCommonMultiple ds l → l ≡ commonMultiple ds
   pub running-is : (ds : List ℕ) → 0 < commonMultiple ds → running ds ≡ limited (commonMultiple ds)
-  -- F3. Ticks are exact; there are whole ticks whenever there can be; and a time n/m is n · (L/m) ticks of 1/L.
+  -- Ticks are exact; there are whole ticks whenever there can be; and a time n/m is n · (L/m) ticks of 1/L.
   pub ticks-exact : (time tick : Fraction) (k : ℕ) → wholeTicks time tick ≡ Whole k → IsTicks time tick k
   pub ticks-found :
       (time tick : Fraction) (k : ℕ) →

@@ -1,5 +1,5 @@
 // Fractions n/m of 32 bits: lowest terms, the order by cross products, the running least common multiple of
-// denominators, and the whole ticks of a time. No quotient stands in for a fraction; no call has a `requires`.
+// denominators, and the whole ticks of a time. No quotient stands in for a fraction; no public call has a `requires`.
 ghost use mathlib.Core.Path.{_≡_};
 ghost use Rattle.fraction.specs.Answer.{lowest, isLowest, above, limit, limited, included, wholeTicks};
 ghost use Rattle.euclid.specs.Answer.{gcd, lcm};

@@ -1,5 +1,5 @@
 // The verdict on a table, for all time: accepted, colliding (which pair first, and when), or refused; with L and the
-// division count. No call has a `requires`: every row of 32-bit numbers has its verdict.
+// division count. No public call has a `requires`: every row of 32-bit numbers has its verdict.
 use refusal::Refusal;
 use table::Outcome;
 use table::Table;

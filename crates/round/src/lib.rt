@@ -1,5 +1,5 @@
 // The round trips: a row that is saved and loaded again, and a stored table that is loaded and saved again. They are written
-// over the contracts of `save` and `load` alone, no call has a `requires`, and what follows the last entry keeps its value.
+// over the contracts of `save` and `load` alone, no public call has a `requires`, and what follows the last entry keeps its value.
 use stored::Loaded;
 use stored::Saved;
 use table::Table;

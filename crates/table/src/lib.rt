@@ -1,5 +1,5 @@
 // A row of six numbers a train, read as a table: refusals 1 to 6 in the paper's order, the common tick 1/L, and the
-// trains in whole ticks. No call has a `requires`: every row of 32-bit numbers has its answer.
+// trains in whole ticks. No public call has a `requires`: every row of 32-bit numbers has its answer.
 use fraction::Fraction;
 use fraction::Multiple;
 use fraction::Ticks;

@@ -1,6 +1,6 @@
 // The dispatcher in words of 32 bits that the caller lends, for programs in other languages. The words stand for a record of
 // the crate `dispatcher`, whatever they are; each call works in place, answers what the record's call answers, and leaves
-// the words of the record after it. No call has a `requires`.
+// the words of the record after it. No public call has a `requires`.
 use dispatcher::Admission;
 use dispatcher::Dispatcher;
 use dispatcher::Held;
