@@ -1,10 +1,9 @@
 // Replays a script: standard input has a call of a dispatcher in each line, and for each line a line is printed.
-// What a line says is read by `script`, and nothing is decided here, so nothing is promised but that it ends safely.
-use dispatcher::Admission;
+// `reply` goes from a line to the line of its answer, and nothing is decided here but where a line ends, so nothing is
+// promised but that it ends safely.
 use dispatcher::Dispatcher;
-use dispatcher::Tick;
-use dispatcher::Withdrawal;
-use refusal::Refusal;
+use line::Written;
+use reply::Played;
 use script::Call;
 use stream::Input;
 ghost use Prim.Native.Nat.{_≤_};
@@ -20,8 +19,8 @@ const KEPT: usize = Call::LONGEST + 2;
 // The bytes of the answers that are written at once.
 const ROOM: usize = 65_536;
 
-// Above this the answers are written, for the next one might find no room. No answer has so many bytes as lie between.
-const NEARLY_FULL: usize = ROOM - 100;
+// Above this the answers are written, for the next one might find no room.
+const NEARLY_FULL: usize = ROOM - Played::LONGEST;
 
 // The dispatcher as the calls have left it, how many bytes of the line that is being read are kept, how many bytes of the
 // answers are still to be written, and whether the input may go on.
@@ -38,144 +37,33 @@ struct Piece {
     kept: usize,
 }
 
-// ---- answers
-
-// Puts a byte behind those that wait, and answers how many wait now. One without room is left out, so that nothing is
-// asked of whoever counts them.
-fn put(lines: &mut [u8; ROOM], at: usize, byte: u8) -> usize {
-    if at < ROOM {
-        lines[at] = byte;
-        return at + 1;
-    }
-    at
-}
-
-fn put_word(lines: &mut [u8; ROOM], at: usize, word: &[u8]) -> usize {
-    let mut next = at;
-    let mut letter = 0;
-    while letter < word.len() {
-        next = put(lines, next, word[letter]);
-        letter += 1;
-    }
-    next
-}
-
-// Puts a space and a number.
-fn put_number(lines: &mut [u8; ROOM], at: usize, number: usize) -> usize {
-    let mut digits = [0u8; 20];
-    let count = io::decimal(number as u64, &mut digits);
-    let next = put(lines, at, b' ');
-    put_word(lines, next, &digits[..count])
-}
-
-fn put_end(lines: &mut [u8; ROOM], at: usize) -> usize {
-    put(lines, at, b'\n')
-}
-
-fn put_line(lines: &mut [u8; ROOM], at: usize, word: &[u8]) -> usize {
-    let next = put_word(lines, at, word);
-    put_end(lines, next)
-}
-
-fn put_place(lines: &mut [u8; ROOM], at: usize, word: &[u8], place: usize) -> usize {
-    let next = put_word(lines, at, word);
-    let next = put_number(lines, next, place);
-    put_end(lines, next)
-}
-
-fn put_refusal(lines: &mut [u8; ROOM], at: usize, refusal: Refusal) -> usize {
-    let next = put_word(lines, at, b"refuse");
-    let next = put_number(lines, next, refusal.number() as usize);
-    let next = put_number(lines, next, refusal.place());
-    put_end(lines, next)
-}
-
-fn put_admission(lines: &mut [u8; ROOM], at: usize, answer: Admission) -> usize {
-    match answer {
-        Admission::At(place) => put_place(lines, at, b"place", place),
-        Admission::Refused(refusal) => put_refusal(lines, at, refusal),
-    }
-}
-
-fn put_withdrawal(lines: &mut [u8; ROOM], at: usize, answer: Withdrawal) -> usize {
-    match answer {
-        Withdrawal::Withdrawn => put_line(lines, at, b"withdrawn"),
-        Withdrawal::Refused(refusal) => put_refusal(lines, at, refusal),
-    }
-}
-
-fn put_tick(lines: &mut [u8; ROOM], at: usize, answer: Tick) -> usize {
-    match answer {
-        Tick::Idle => put_line(lines, at, b"idle"),
-        Tick::Starts(place) => put_place(lines, at, b"starts", place),
-        Tick::GoesOn(place) => put_place(lines, at, b"goes-on", place),
-        Tick::Refused(refusal) => put_refusal(lines, at, refusal),
-    }
-}
-
 // ---- calls
 
-// Each call answers for a whole line, so nothing is kept of a line after it.
 impl Play {
-    fn fresh(self, count: u32, lines: &mut [u8; ROOM]) -> Play {
-        Play {
-            dispatcher: Dispatcher::fresh(count),
-            kept: 0,
-            waiting: put_line(lines, self.waiting, b"fresh"),
-            goes_on: true,
+    // Makes the call of a line, and puts its answer behind those that wait. There is always room for one, and if there were
+    // not, nothing would go on.
+    fn answer(self, said: &[u8], lines: &mut [u8]) -> Play {
+        let played = reply::play(self.dispatcher, said, lines, self.waiting);
+        let dispatcher = played.dispatcher;
+        let written = played.written;
+        match written {
+            Written::Length(end) => Play {
+                dispatcher: dispatcher,
+                kept: 0,
+                waiting: end,
+                goes_on: true,
+            },
+            Written::Refused(_) => self.end(),
         }
     }
 
-    fn admit(self, delay: u32, period: u32, duration: u32, lines: &mut [u8; ROOM]) -> Play {
-        let admitted = self.dispatcher.admit(delay, period, duration);
-        let dispatcher = admitted.dispatcher;
-        let answer = admitted.answer;
-        Play {
-            dispatcher: dispatcher,
-            kept: 0,
-            waiting: put_admission(lines, self.waiting, answer),
-            goes_on: true,
+    // The same for a line of which so many bytes are kept. The count is tested here, so that nothing is asked of whoever
+    // counted them.
+    fn call(self, line: &[u8], kept: usize, lines: &mut [u8]) -> Play {
+        if kept <= line.len() {
+            return self.answer(&line[..kept], lines);
         }
-    }
-
-    fn withdraw(self, place: u32, lines: &mut [u8; ROOM]) -> Play {
-        let withdrew = self.dispatcher.withdraw(place as usize);
-        let dispatcher = withdrew.dispatcher;
-        let answer = withdrew.answer;
-        Play {
-            dispatcher: dispatcher,
-            kept: 0,
-            waiting: put_withdrawal(lines, self.waiting, answer),
-            goes_on: true,
-        }
-    }
-
-    fn step(self, count: u32, lines: &mut [u8; ROOM]) -> Play {
-        let stepped = self.dispatcher.step(count);
-        let dispatcher = stepped.dispatcher;
-        let answer = stepped.answer;
-        Play {
-            dispatcher: dispatcher,
-            kept: 0,
-            waiting: put_tick(lines, self.waiting, answer),
-            goes_on: true,
-        }
-    }
-
-    fn bad(mut self, lines: &mut [u8; ROOM]) -> Play {
-        self.kept = 0;
-        self.waiting = put_line(lines, self.waiting, b"bad");
-        self
-    }
-
-    fn call(self, call: Call, lines: &mut [u8; ROOM]) -> Play {
-        match call {
-            Call::Bad => self.bad(lines),
-            Call::Fresh(count) => self.fresh(count, lines),
-            Call::Admit(delay, period, duration) => self.admit(delay, period, duration, lines),
-            Call::Withdraw(place) => self.withdraw(place, lines),
-            Call::Step(count) => self.step(count, lines),
-        }
+        self.end()
     }
 
     // So many bytes of a line are kept, and its end has not been read.
@@ -210,14 +98,6 @@ fn write(lines: &[u8], waiting: usize) -> bool {
 }
 
 // ---- standard input
-
-// The call of a line of which so many bytes are kept.
-fn call_of(line: &[u8], kept: usize) -> Call {
-    if kept <= line.len() {
-        return script::read(&line[..kept]);
-    }
-    Call::Bad
-}
 
 // Keeps a byte of a line behind those that are kept, and answers how many are kept now. One without room is left out.
 fn keep(line: &mut [u8; KEPT], kept: usize, byte: u8) -> usize {
@@ -262,7 +142,7 @@ fn play_part(play: Play, input: &[u8], line: &mut [u8; KEPT], lines: &mut [u8; R
         if piece.end >= input.len() {
             return play.keep(piece.kept);
         }
-        play = play.call(call_of(line, piece.kept), lines);
+        play = play.call(line, piece.kept, lines);
         if play.waiting > NEARLY_FULL {
             play = play.flushed(lines);
         }
@@ -277,7 +157,7 @@ fn play_last(play: Play, line: &[u8; KEPT], lines: &mut [u8; ROOM]) -> Play {
     if kept == 0 {
         return play.end();
     }
-    play.call(call_of(line, kept), lines).end()
+    play.call(line, kept, lines).end()
 }
 
 // Reads what there is to read and plays it; where there is nothing, the input has ended. The answers are written before

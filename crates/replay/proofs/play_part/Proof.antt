@@ -24,9 +24,6 @@ keep-requires c κs = search needs
 returns : tie.Need-returns Inv-loop μ-loop
 returns c = search needs
 
-call-of-requires : tie.Need-call-of-requires Inv-loop μ-loop
-call-of-requires c κs = search needs
-
 call-requires : tie.Need-call-requires Inv-loop μ-loop
 call-requires c κs = search needs
 
@@ -35,7 +32,7 @@ flushed-requires c κs = search needs
 
 add-from : tie.Need-add-from Inv-loop μ-loop
 add-from c =
-    let tested = c .before .before .before .before .before .before .before .before in
+    let tested = c .before .before .before .before .before .before .before in
     let start = tested .before .before .before .before .before .before .before .before in
     omega (arith, tested .if2 .left, start .good .1 .0 .0)
 
@@ -61,7 +58,6 @@ play-part-spec =
     collect-requires
     keep-requires
     returns
-    call-of-requires
     call-requires
     flushed-requires
     add-from
