@@ -1,15 +1,15 @@
-// Prints the line of a verdict on standard output. This is the one library that rests on the C library's contracts, by way
-// of `io`; the programs that print verdicts call it. What the line is was decided in `line`.
+// Prints the line of a verdict on standard output, by `stream`, which rests on the C library's contracts; the programs that
+// print verdicts call it. What the line is was decided in `line`. No contract can say what is printed, but what is handed on
+// to be printed is tied to the verdict: `print` asks for it.
 use judge::Verdict;
 use line::Written;
+ghost use Rattle.show.specs.Standing.{Stands};
 
-// Prints the line that stands at the start of `text`. The length is tested here, so that nothing is asked of whoever
-// counted it.
-fn print(text: &[u8], length: usize) -> bool {
-    if length <= text.len() {
-        return stream::write(&text[..length]);
-    }
-    false
+// Prints the line of the verdict, which stands at the start of the text. The verdict is named only to say so.
+fn print(verdict: Verdict, text: &[u8], length: usize) -> bool
+    requires { ⌜ Stands verdict length (now text) ⌝ }
+{
+    stream::write(&text[..length])
 }
 
 // Prints the line of a verdict, and answers whether it could be written.
@@ -17,7 +17,7 @@ pub fn show(verdict: Verdict) -> bool {
     let mut text = [0u8; Written::LONGEST];
     let written = line::write(verdict, &mut text);
     match written {
-        Written::Length(length) => print(&text, length),
+        Written::Length(length) => print(verdict, &text, length),
         // the buffer is too short for no line
         Written::Refused(_) => false,
     }

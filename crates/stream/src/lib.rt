@@ -74,12 +74,12 @@ fn say_unwritten() {
 }
 
 // Writes the first of the bytes, as many as are taken at once, and answers how many; 0 where they cannot be written, which
-// has been said. The turns are counted as those of `read`.
+// has been said. The tries are counted down as the turns of `read`.
 fn write_some(bytes: &[u8]) -> usize
     ensures { λ r. ⌜ r ≤ length (now (bytes .entry)) ⌝ }
 {
-    let mut turns = u64::MAX;
-    while turns > 0 {
+    let mut tries = u64::MAX;
+    while tries > 0 {
         let got = libc::write(libc::STDOUT_FILENO, bytes);
         if got > 0 {
             return io::count(got, bytes);
@@ -89,7 +89,7 @@ fn write_some(bytes: &[u8]) -> usize
             say_unwritten();
             return 0;
         }
-        turns -= 1;
+        tries -= 1;
     }
     say_unwritten();
     0

@@ -1,5 +1,4 @@
--- `print` ends safely: the first bytes are as many as the length says, since there are no fewer.
--- Assumes nothing.
+-- `print` ends safely: the first bytes are as many as the length says, since the line stands there. Assumes nothing.
 use mathlib.Core.Path.{sym}
 use lib.Seq.{length-take-le}
 use borrow.Author.Needs.{needs}
@@ -8,8 +7,8 @@ use Rattle.show.proofs.print.Tie as tie
 
 slice-aggregate-write : tie.Need-slice-aggregate-write
 slice-aggregate-write c =
-    let start = c .before .before .before in
-    sym (length-take-le (start .args .length) (start .args .text .now) (c .before .if1 .taken))
+    let start = c .before .before in
+    sym (length-take-le (start .args .length) (start .args .text .now) (start .pre .within))
 
 write-requires : tie.Need-write-requires
 write-requires c κs = search needs
@@ -17,8 +16,5 @@ write-requires c κs = search needs
 returns : tie.Need-returns
 returns c = search needs
 
-returns-2 : tie.Need-returns-2
-returns-2 c = search needs
-
 pub print-spec : {M : Type 1} → statement M
-print-spec = tie.close (tie.spec slice-aggregate-write write-requires returns returns-2)
+print-spec = tie.close (tie.spec slice-aggregate-write write-requires returns)

@@ -1,13 +1,13 @@
--- `write_some` ends: the turns that are left fall. Assumes nothing.
+-- `write_some` ends: the tries that are left fall. Assumes nothing.
 use borrow.Author.Needs.{needs}
 use Rattle.stream.proofs.write_some.Statement.{statement}
 use Rattle.stream.proofs.write_some.Tie as tie
 
 abbrev Inv-loop : tie.InvT-loop
-Inv-loop bytes turns₀ turns = Unit {0}
+Inv-loop bytes tries₀ tries = Unit {0}
 
 abbrev μ-loop : tie.MeasureT-loop
-μ-loop bytes turns₀ turns = turns
+μ-loop bytes tries₀ tries = tries
 
 loop-holds : tie.Need-loop-holds Inv-loop μ-loop
 loop-holds c = search needs
@@ -30,8 +30,8 @@ say-unwritten-requires c κs = search needs
 returns-2 : tie.Need-returns-2 Inv-loop μ-loop
 returns-2 c = search needs
 
-sub-turns : tie.Need-sub-turns Inv-loop μ-loop
-sub-turns c = search needs
+sub-tries : tie.Need-sub-tries Inv-loop μ-loop
+sub-tries c = search needs
 
 loop-less : tie.Need-loop-less Inv-loop μ-loop
 loop-less c = search needs
@@ -58,7 +58,7 @@ write-some-spec =
     again-requires
     say-unwritten-requires
     returns-2
-    sub-turns
+    sub-tries
     loop-less
     loop-again
     say-unwritten-requires-2

@@ -1,0 +1,2 @@
+-- The law that the proof of `show` cites.
+pub mod Lines

@@ -1,0 +1,2 @@
+-- What show hands on to be printed: Standing.
+pub mod Standing
