@@ -1,10 +1,11 @@
 -- From what `line` answers to what is handed on. Assumes nothing.
 use Prim.Native.Nat.{ℕ, _+_, _≤_}
 use native.Mathlib.Omega.{arith}
-use mathlib.Core.Path.{_≡_, sym, ap, subst}
+use mathlib.Core.Path.{_≡_, sym, ap, subst, _∙_}
 use mathlib.Core.List.{List, _++_}
 use lib.ListN.{length, take, drop, length-append}
 use lib.Seq.{take-at}
+use Rattle.lent.proofs.Over.{over-front}
 use Rattle.judge.specs.declared.Verdict.{Verdict}
 use Rattle.line.specs.declared.Written.{Written}
 use Rattle.line.specs.declared.Written.the-variants.{Length}
@@ -18,7 +19,8 @@ pub written-stands :
 unfolding bufferAfter
 written-stands verdict n before after answer is right wrote =
     let count : n ≡ length (lineOf verdict) = cc in
-    let put : after ≡ lineOf verdict ++ drop n before = subst (λ a. after ≡ writtenIn a verdict before) is wrote in
+    let put : after ≡ lineOf verdict ++ drop n before =
+    subst (λ a. after ≡ writtenIn a verdict before) is wrote ∙ over-front before (lineOf verdict) n (sym count) in
     let whole : length after ≡ length (lineOf verdict ++ drop n before) = ap length put in
     record {
       within = omega (arith, count, whole, length-append (lineOf verdict) (drop n before));
