@@ -78,16 +78,18 @@ done
 
 # ---- at a terminal words follow
 
-# What a person sees, without the carriage returns of a terminal.
-seen() { script -qec "$1" /dev/null </dev/null | tr -d '\r'; } # COMMAND
+# What a person sees.
+seen() { script -qec "$1" /dev/null </dev/null; } # COMMAND
 
 sees() { # COMMAND WORDS
-    seen "$1" | grep -qF -- "$2" || wrong "$1 at a terminal does not say: $2"
+    local screen
+    screen=$(seen "$1")
+    [[ -n $2 && $screen == *"$2"* ]] || wrong "$1 at a terminal does not say: $2"
 }
 sees "./urzabelki verdict $stored" 'Trains 0 and 1'
 sees "./urzabelki verdict $stored" '11/13 ms'
 sees './urzabelki judge 0 3 10/3' "$(sed -n 's|^ *URZABELKI_REFUSAL_[A-Z_]* = 4, */\* \(.*\) \*/$|\1|p' include/urzabelki.h)"
 sees './urzabelki judge 0 1 1' 'Accepted'
-! seen "./urzabelki verdict $stored | cat" | grep -q 'Trains' || wrong "words go to a pipe"
+[[ $(seen "./urzabelki verdict $stored | cat") != *Trains* ]] || wrong "words go to a pipe"
 
 exit "$bad"
