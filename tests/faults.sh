@@ -9,6 +9,9 @@ work=$(mktemp -d) || exit 2
 trap 'rm -rf "$work"' EXIT
 failed=0
 
+# A program that is for another machine is not tried further: `timeout` would hand it to a shell as a script.
+"$bin/sheet" >/dev/null 2>&1 || { echo "tests/faults.sh: the programs in $bin do not run here"; exit 1; }
+
 fails() { # WORDS: counts what does not hold
     echo "tests/faults.sh: $1"
     failed=1

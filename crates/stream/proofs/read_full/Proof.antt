@@ -65,7 +65,7 @@ same-length-3 : tie.Need-same-length-3 Inv-loop μ-loop
 same-length-3 c = search needs
 
 returns-3 : tie.Need-returns-3 Inv-loop μ-loop
-returns-3 c = bound-counts _ _ (search needs)
+returns-3 c = search (needs, bound-counts)
 
 pub read-full-spec : {M : Type 1} → statement M
 read-full-spec =
