@@ -53,7 +53,12 @@ impl Play {
                 waiting: end,
                 goes_on: true,
             },
-            Written::Refused(_) => self.end(),
+            Written::Refused(_) => Play {
+                dispatcher: dispatcher,
+                kept: 0,
+                waiting: self.waiting,
+                goes_on: false,
+            },
         }
     }
 

@@ -1,12 +1,16 @@
 -- What it is to have replied, on plain values.
--- Core: replied-as, that a line that was written and the dispatcher that is kept are a reply. The rest joins equations.
+-- Core: replied, that a line that was written and the dispatcher that is left are a reply. The rest joins equations.
 -- Assumes nothing.
-use Prim.Native.Nat.{ℕ, _+_, _≤_}
+use Prim.Native.Nat.{ℕ, _+_, _-_, _<_, _≤_}
 use mathlib.Core.Path.{_≡_, refl, sym, ap, subst, _∙_}
+use mathlib.Core.Bool.{Bool, true, false}
 use mathlib.Core.List.{List, [], _∷_}
 use native.Mathlib.Omega.{arith}
+use lib.Dec.{ltb}
 use lib.ListN.{length}
+use borrow.Author.Tests.{ltb-true, ltb-false, lt-ltb, le-ltb}
 use Rattle.refusal.specs.declared.Refusal.{Refusal}
+use Rattle.refusal.specs.declared.Refusal.the-variants.{BufferTooShort}
 use Rattle.refusal.specs.Paper.{paper}
 use Rattle.dispatcher.specs.declared.Dispatcher.{Dispatcher}
 use Rattle.script.specs.declared.Call.{Call}
@@ -16,8 +20,8 @@ use Rattle.line.specs.declared.Written.the-variants.{Length, Refused}
 use Rattle.line.specs.Answer.{refuseWord, textOf, answerFor, bufferAfter}
 use Rattle.line.proofs.Lines.{answer-room}
 use Rattle.reply.specs.declared.Played.{Played}
-use Rattle.reply.specs.Lines.{Shown, refuse, lineOf, Within, longest}
-use Rattle.reply.specs.Answer.{shownRefusal, shown, after, replyTo, standing, playedAs, played}
+use Rattle.reply.specs.Lines.{Shown, lineOf, Within, longest}
+use Rattle.reply.specs.Answer.{shownRefusal, shown, after, replyTo, played}
 use Rattle.reply.specs.Inside.{Wrote, Replied}
 use Rattle.reply.proofs.Texts.{line-fits}
 
@@ -45,60 +49,59 @@ pub refuse-line :
 unfolding lineOf
 refuse-line refusal number place p q = λ i. textOf refuseWord (p i ∷ q i ∷ [])
 
--- the dispatcher that is kept
-pub keep-after :
-    (written : Written) (end : ℕ) (d e : Dispatcher) → written ≡ Length end →
-    _≡_ {A = Played} (record { written = written; dispatcher = e }) (playedAs written d e)
-unfolding standing
-keep-after written end d e w =
-    λ i. record { written = written; dispatcher = ap (λ (x : Written). standing x d e) (sym w) i }
-
-pub keep-before :
-    (written : Written) (r : Refusal) (d e : Dispatcher) → written ≡ Refused r →
-    _≡_ {A = Played} (record { written = written; dispatcher = d }) (playedAs written d e)
-unfolding standing
-keep-before written r d e w =
-    λ i. record { written = written; dispatcher = ap (λ (x : Written). standing x d e) (sym w) i }
-
--- a line that was written, and the dispatcher that was kept by it
+-- a line that was written where there is room for the longest, and the dispatcher that is left
 pub replied :
-    (s : Shown) (d e : Dispatcher) (at : ℕ) (before now : List ℕ) (written : Written) (p : Played) →
-    Wrote s at before now written → p ≡ playedAs written d e → Replied s d e at before now p
-replied s d e at before now written p w kept =
-    record {
-      within = w .within;
-      answers = kept ∙ ap (λ (x : Written). playedAs x d e) (w .answers);
-      leaves = w .leaves ∙ ap (λ (x : Written). bufferAfter x (lineOf s) at before) (sym (ap (λ (x : Played). x .written) kept));
-    }
+    (s : Shown) (d : Dispatcher) (at : ℕ) (before now : List ℕ) (written : Written) → at + longest ≤ length before →
+    Wrote s at before now written → Replied s d at before now (record { written = written; dispatcher = d })
+replied s d at before now written room w =
+    let whole : written ≡ Length (at + length (lineOf s)) =
+    w .answers ∙ answer-room (lineOf s) at (length before) (omega (arith, line-fits s (w .within))) in
+    record { answers = λ i. record { written = whole i; dispatcher = d }; leaves = w .leaves }
 
 -- the same for what a call answered: its answer x is y, that of the definition
 pub replied-as :
-    {A : Type 0} (shownOf : A → Shown) (afterOf : A → Dispatcher) (x y : A) (d : Dispatcher) (at : ℕ) (before now : List ℕ)
-    (written : Written) (p : Played) → x ≡ y → Wrote (shownOf x) at before now written → p ≡ playedAs written d (afterOf x) →
-    Replied (shownOf y) d (afterOf y) at before now p
-replied-as shownOf afterOf x y d at before now written p e w kept =
-    subst (λ z. Replied (shownOf z) d (afterOf z) at before now p) e
-    (replied (shownOf x) d (afterOf x) at before now written p w kept)
+    {A : Type 0} (shownOf : A → Shown) (afterOf : A → Dispatcher) (x y : A) (at : ℕ) (before now : List ℕ) (written : Written) →
+    at + longest ≤ length before → x ≡ y → Wrote (shownOf x) at before now written →
+    Replied (shownOf y) (afterOf y) at before now (record { written = written; dispatcher = afterOf x })
+replied-as shownOf afterOf x y at before now written room e w =
+    subst (λ z. Replied (shownOf z) (afterOf z) at before now (record { written = written; dispatcher = afterOf x })) e
+    (replied (shownOf x) (afterOf x) at before now written room w)
 
--- what `play` promises, from the reply to the call that was matched
+-- ---- The room
+
+pub short-beyond : (room at : ℕ) → room < at → true ≡ ltb room (at + longest)
+short-beyond room at h = sym (lt-ltb room (at + longest) (omega arith))
+
+pub short-left : (room at : ℕ) → at ≤ room → ltb (room - at) longest ≡ ltb room (at + longest)
+short-left room at h = go (ltb (room - at) longest) refl
+  where
+    go : (b : Bool) → ltb (room - at) longest ≡ b → b ≡ ltb room (at + longest)
+    go true t = sym (lt-ltb room (at + longest) (omega (arith, ltb-true (room - at) longest t)))
+    go false t = sym (le-ltb room (at + longest) (omega (arith, ltb-false (room - at) longest t)))
+
+pub room-left : (room at : ℕ) (short : Bool) → short ≡ ltb room (at + longest) → short ≡ false → at + longest ≤ room
+room-left room at short e f = ltb-false room (at + longest) (sym e ∙ f)
+
+-- ---- What `play` promises
+
+-- a buffer that is too short
+pub play-short :
+    (d : Dispatcher) (said before : List ℕ) (at most : ℕ) (short : Bool) → most ≡ longest →
+    short ≡ ltb (length before) (at + longest) → short ≡ true →
+    (_≡_ {A = Played} (record { written = Refused BufferTooShort; dispatcher = d }) (played d said at (length before)))
+    × ((before ≡ bufferAfter (Refused BufferTooShort) (replyTo d said) at before) × (most ≡ longest))
+unfolding played bufferAfter
+play-short d said before at most short m e t = (simp (sym e ∙ t), (refl, m))
+
+-- the reply to the call that was matched is the reply to the line
 pub play-reply :
-    (d : Dispatcher) (said before now : List ℕ) (at most : ℕ) (call matched : Call) (p : Played) → most ≡ longest →
-    call ≡ callIn said → call ≡ matched → Replied (shown d matched) d (after d matched) at before now p →
+    (d : Dispatcher) (said before now : List ℕ) (at most : ℕ) (short : Bool) (call matched : Call) (p : Played) → most ≡ longest →
+    short ≡ ltb (length before) (at + longest) → short ≡ false → call ≡ callIn said → call ≡ matched →
+    Replied (shown d matched) (after d matched) at before now p →
     (p ≡ played d said at (length before))
-    × ((now ≡ bufferAfter (p .written) (replyTo d said) at before)
-    × ((most ≡ longest) × (at + longest ≤ length before → p .written ≡ Length (at + length (replyTo d said)))))
-play-reply d said before now at most call matched p m read match reply =
-    let same : matched ≡ callIn said = sym match ∙ read in
-    let r : Replied (shown d (callIn said)) d (after d (callIn said)) at before now p =
-    subst (λ (c : Call). Replied (shown d c) d (after d c) at before now p) same reply in
-    let fits : length (replyTo d said) ≤ longest = line-fits (shown d (callIn said)) (r .within) in (
-      r .answers,
-      (
-        r .leaves,
-        (
-          m,
-          λ h.
-              ap (λ (x : Played). x .written) (r .answers) ∙ answer-room (replyTo d said) at (length before) (omega arith),
-        ),
-      ),
-    )
+    × ((now ≡ bufferAfter (p .written) (replyTo d said) at before) × (most ≡ longest))
+unfolding played
+play-reply d said before now at most short call matched p m e f read match reply =
+    let r : Replied (shown d (callIn said)) (after d (callIn said)) at before now p =
+    subst (λ (c : Call). Replied (shown d c) (after d c) at before now p) (sym match ∙ read) reply in
+    (simp (sym e ∙ f) (r .answers), (r .leaves, m))

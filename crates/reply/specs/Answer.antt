@@ -3,12 +3,14 @@
 --     shown d call             what is printed for the call of a line
 --     after d call             the dispatcher after that call
 --     replyTo d said           the printed line for a line of a script, which is read without its newline
---     standing written d e     the dispatcher that is left: as it came where its answer found no room
---     playedAs written d e     what `play` answers, by what was written
 --     played d said at room    what `play` answers
-use Prim.Native.Nat.{ℕ}
+use Prim.Native.Nat.{ℕ, _+_}
+use mathlib.Core.Bool.{cond}
 use mathlib.Core.List.{List}
+use lib.Dec.{ltb}
+use lib.ListN.{length}
 use Rattle.refusal.specs.declared.Refusal.{Refusal}
+use Rattle.refusal.specs.declared.Refusal.the-variants.{BufferTooShort}
 use Rattle.refusal.specs.Paper.{paper}
 use Rattle.dispatcher.specs.declared.Dispatcher.{Dispatcher}
 use Rattle.dispatcher.specs.declared.Admission.{Admission}
@@ -21,11 +23,9 @@ use Rattle.dispatcher.specs.Answer as dispatcher
 use Rattle.script.specs.declared.Call.{Call}
 use Rattle.script.specs.declared.Call.the-variants.{Bad, Fresh, Admit, Withdraw, Step}
 use Rattle.script.specs.Answer.{callIn}
-use Rattle.line.specs.declared.Written.{Written}
 use Rattle.line.specs.declared.Written.the-variants.{Length, Refused}
-use Rattle.line.specs.Answer.{answerFor}
 use Rattle.reply.specs.declared.Played.{Played}
-use Rattle.reply.specs.Lines.{Shown, fresh, place, withdrawn, idle, starts, goes-on, refuse, bad, lineOf}
+use Rattle.reply.specs.Lines.{Shown, fresh, place, withdrawn, idle, starts, goes-on, refuse, bad, lineOf, longest}
 
 -- A refusal is printed with the paper's number and place.
 abbrev pub shownRefusal : Refusal → Shown
@@ -70,15 +70,10 @@ after d (Step count) = dispatcher.stepping d count .dispatcher
 abbrev pub replyTo : Dispatcher → List ℕ → List ℕ
 replyTo d said = lineOf (shown d (callIn said))
 
--- Where the printed line found no room, the call is as if it had not been made.
-unfoldable pub standing : Written → (before after : Dispatcher) → Dispatcher
-standing (Length end) d e = e
-standing (Refused r) d e = d
-
--- The answer, by what was written.
-abbrev pub playedAs : Written → (before after : Dispatcher) → Played
-playedAs written d e = record { written = written; dispatcher = standing written d e }
-
--- What `play` answers.
-abbrev pub played : Dispatcher → (said : List ℕ) (at room : ℕ) → Played
-played d said at room = playedAs (answerFor (replyTo d said) at room) d (after d (callIn said))
+-- What `play` answers. It wants room for the longest line, whatever the call: with less behind the index nothing is called, and
+-- the dispatcher is handed back as it came.
+unfoldable pub played : Dispatcher → (said : List ℕ) (at room : ℕ) → Played
+played d said at room =
+    cond (ltb room (at + longest))
+    (record { written = Refused BufferTooShort; dispatcher = d })
+    (record { written = Length (at + length (replyTo d said)); dispatcher = after d (callIn said) })

@@ -13,19 +13,16 @@ admit-requires c κs = search needs
 put-admission-requires : tie.Need-put-admission-requires
 put-admission-requires c κs = search needs
 
-keep-requires : tie.Need-keep-requires
-keep-requires c κs = search needs
-
 same-length : tie.Need-same-length
 same-length c = search needs
 
 returns : tie.Need-returns
 returns c =
-    let put = c .before .before .before in
+    let put = c .before .before in
     let called = put .before .before .before in
-    replied-as (λ (x : Admitted). shownAdmission (x .answer)) (λ (x : Admitted). x .dispatcher) _ _ _ _ _ _ _ _
-    (called .admit .ensures) (put .put-admission .ensures) (c .keep .ensures)
+    replied-as (λ (x : Admitted). shownAdmission (x .answer)) (λ (x : Admitted). x .dispatcher) _ _ _ _ _ _ (called .before .before .pre)
+    (called .admit .ensures) (put .put-admission .ensures)
 
 pub admit-spec : {M : Type 1} → statement M
 admit-spec =
-    tie.close (tie.spec admit-requires put-admission-requires keep-requires same-length returns)
+    tie.close (tie.spec admit-requires put-admission-requires same-length returns)

@@ -16,17 +16,15 @@ slice-aggregate-put-2 c = search needs
 put-requires : tie.Need-put-requires
 put-requires c κs = search needs
 
-keep-requires : tie.Need-keep-requires
-keep-requires c κs = search needs
-
 same-length : tie.Need-same-length
 same-length c = search needs
 
 returns : tie.Need-returns
 unfolding lineOf
 returns c =
-    let put = c .before .before .before in
-    replied _ _ _ _ _ _ _ _ (wrote-text bad _ _ _ _ _ tt refl (put .put .ensures .0) (put .put .ensures .1)) (c .keep .ensures)
+    let put = c .before .before in
+    let start = put .before .before .before .before .before in
+    replied _ _ _ _ _ _ (start .pre) (wrote-text bad _ _ _ _ _ tt refl (put .put .ensures .0) (put .put .ensures .1))
 
 pub bad-spec : {M : Type 1} → statement M
 bad-spec =
@@ -35,6 +33,5 @@ bad-spec =
     slice-aggregate-put
     slice-aggregate-put-2
     put-requires
-    keep-requires
     same-length
     returns)

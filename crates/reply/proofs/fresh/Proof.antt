@@ -20,19 +20,16 @@ slice-aggregate-put-2 c = search needs
 put-requires : tie.Need-put-requires
 put-requires c κs = search needs
 
-keep-requires : tie.Need-keep-requires
-keep-requires c κs = search needs
-
 same-length : tie.Need-same-length
 same-length c = search needs
 
 returns : tie.Need-returns
 unfolding lineOf
 returns c =
-    let put = c .before .before .before in
+    let put = c .before .before in
     let made = put .before .before .before .before in
-    replied-as (λ (x : Dispatcher). fresh) (λ (x : Dispatcher). x) _ _ _ _ _ _ _ _ (made .fresh .ensures .0)
-    (wrote-text fresh _ _ _ _ _ tt refl (put .put .ensures .0) (put .put .ensures .1)) (c .keep .ensures)
+    replied-as (λ (x : Dispatcher). fresh) (λ (x : Dispatcher). x) _ _ _ _ _ _ (made .before .before .pre) (made .fresh .ensures .0)
+    (wrote-text fresh _ _ _ _ _ tt refl (put .put .ensures .0) (put .put .ensures .1))
 
 pub fresh-spec : {M : Type 1} → statement M
 fresh-spec =
@@ -42,6 +39,5 @@ fresh-spec =
     slice-aggregate-put
     slice-aggregate-put-2
     put-requires
-    keep-requires
     same-length
     returns)

@@ -13,18 +13,15 @@ step-requires c κs = search needs
 put-tick-requires : tie.Need-put-tick-requires
 put-tick-requires c κs = search needs
 
-keep-requires : tie.Need-keep-requires
-keep-requires c κs = search needs
-
 same-length : tie.Need-same-length
 same-length c = search needs
 
 returns : tie.Need-returns
 returns c =
-    let put = c .before .before .before in
+    let put = c .before .before in
     let called = put .before .before .before in
-    replied-as (λ (x : Stepped). shownTick (x .answer)) (λ (x : Stepped). x .dispatcher) _ _ _ _ _ _ _ _
-    (called .step .ensures) (put .put-tick .ensures) (c .keep .ensures)
+    replied-as (λ (x : Stepped). shownTick (x .answer)) (λ (x : Stepped). x .dispatcher) _ _ _ _ _ _ (called .before .before .pre)
+    (called .step .ensures) (put .put-tick .ensures)
 
 pub step-spec : {M : Type 1} → statement M
-step-spec = tie.close (tie.spec step-requires put-tick-requires keep-requires same-length returns)
+step-spec = tie.close (tie.spec step-requires put-tick-requires same-length returns)

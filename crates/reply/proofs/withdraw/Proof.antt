@@ -13,20 +13,17 @@ withdraw-requires c κs = search needs
 put-withdrawal-requires : tie.Need-put-withdrawal-requires
 put-withdrawal-requires c κs = search needs
 
-keep-requires : tie.Need-keep-requires
-keep-requires c κs = search needs
-
 same-length : tie.Need-same-length
 same-length c = search needs
 
 returns : tie.Need-returns
 returns c =
-    let put = c .before .before .before in
+    let put = c .before .before in
     let called = put .before .before .before in
-    replied-as (λ (x : Withdrew). shownWithdrawal (x .answer)) (λ (x : Withdrew). x .dispatcher) _ _ _ _ _ _ _ _
-    (called .withdraw .ensures) (put .put-withdrawal .ensures) (c .keep .ensures)
+    replied-as (λ (x : Withdrew). shownWithdrawal (x .answer)) (λ (x : Withdrew). x .dispatcher) _ _ _ _ _ _ (called .before .before .pre)
+    (called .withdraw .ensures) (put .put-withdrawal .ensures)
 
 pub withdraw-spec : {M : Type 1} → statement M
 withdraw-spec =
     tie.close
-    (tie.spec withdraw-requires put-withdrawal-requires keep-requires same-length returns)
+    (tie.spec withdraw-requires put-withdrawal-requires same-length returns)
