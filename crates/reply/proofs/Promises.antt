@@ -5,11 +5,15 @@ use Rattle.line.specs.Answer.{leadingWithin, decimal, numbers}
 use Rattle.reply.specs.Lines.{lineOf}
 use Rattle.reply.specs.Promises.{Promises}
 use Rattle.reply.proofs.Texts as texts
+use Rattle.reply.proofs.Events.{admit-shown, withdraw-shown, step-shown}
 
 pub promises : Promises
 unfolding leadingWithin decimal numbers lineOf
 promises =
     record {
+      admit-shown = admit-shown;
+      withdraw-shown = withdraw-shown;
+      step-shown = step-shown;
       line-tells = texts.line-tells;
       line-fits = texts.line-fits;
       line-reaches = refl;

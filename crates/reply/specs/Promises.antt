@@ -3,9 +3,27 @@ use Prim.Native.Nat.{ℕ, _≤_}
 use mathlib.Core.Path.{_≡_}
 use mathlib.Core.List.{List, [], _∷_}
 use lib.ListN.{length}
+use Rattle.dispatcher.specs.declared.Dispatcher.{Dispatcher}
+use Rattle.dispatcher.specs.Calls as calls
+use Rattle.dispatcher.specs.Played.{eventOf, recordAfter}
+use Rattle.script.specs.declared.Call.the-variants.{Admit, Withdraw, Step}
+use Rattle.reply.specs.Events.{shownEvent}
+use Rattle.reply.specs.Answer.{shown, after}
 use Rattle.reply.specs.Lines.{Shown, fresh, place, withdrawn, idle, starts, goes-on, refuse, bad, lineOf, Within, longest}
 
 pub record Promises : Type 0 where
+  -- What is printed for a call is what is printed for its event in the dispatcher's log, and the dispatcher that is left is the record
+  -- after it: so what is promised of logs is promised of what is printed.
+  pub admit-shown :
+      (d : Dispatcher) (delay period duration : ℕ) →
+      (shown d (Admit delay period duration) ≡ shownEvent (eventOf d (calls.admit delay period duration)))
+      × (after d (Admit delay period duration) ≡ recordAfter d (calls.admit delay period duration))
+  pub withdraw-shown :
+      (d : Dispatcher) (q : ℕ) →
+      (shown d (Withdraw q) ≡ shownEvent (eventOf d (calls.withdraw q))) × (after d (Withdraw q) ≡ recordAfter d (calls.withdraw q))
+  pub step-shown :
+      (d : Dispatcher) (count : ℕ) →
+      (shown d (Step count) ≡ shownEvent (eventOf d (calls.step count))) × (after d (Step count) ≡ recordAfter d (calls.step count))
   -- Nothing is lost in print: two lines of the same bytes have the same word and the same numbers.
   pub line-tells : (s t : Shown) → lineOf s ≡ lineOf t → s ≡ t
   -- No line of numbers within their types is longer than the longest, and one is as long.
