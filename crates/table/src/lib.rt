@@ -8,10 +8,11 @@ use train::Train;
 ghost use Prim.Native.Nat.{_+_, _*_, _≤_};
 ghost use mathlib.Core.Path.{_≡_};
 ghost use lib.ListN.{length, getD};
+ghost use Rattle.lent.specs.Lent.{fitted};
 ghost use Rattle.fraction.specs.Answer.{wholeTicks, runningFrom, running};
 ghost use Rattle.fraction.specs.declared.Multiple.the-variants.{Within};
 ghost use Rattle.table.specs.declared.Outcome.the-variants.{Passed};
-ghost use Rattle.table.specs.Row.{capacity, numbers, longestRow, recordLength, timeAt, noEntry, entries, denominatorsOf, denominators};
+ghost use Rattle.table.specs.Row.{capacity, numbers, longestRow, recordLength, timeAt, noEntry, entries, numbersOf, denominatorsOf, denominators};
 ghost use Rattle.table.specs.Answer.{noDenominator, noTime, entryCheck, checked, multipleChecked, refused, reading};
 ghost use Rattle.table.specs.Inside.{timed, trainTimed, readTicks};
 
@@ -123,6 +124,24 @@ impl Entry {
             period: time_at(row, at + 2),
             duration: time_at(row, at + 4),
         }
+    }
+
+    // Writes the six numbers of this train to a row, from an index on, if there is room for all of them.
+    pub fn put(self, row: &mut [u32], at: usize)
+        ensures { λ _. ⌜ now (row .exit) ≡ fitted (now (row .entry)) at (numbersOf self) ⌝ }
+    {
+        if row.len() < Table::NUMBERS {
+            return;
+        }
+        if row.len() - Table::NUMBERS < at {
+            return;
+        }
+        row[at] = self.phase.numerator;
+        row[at + 1] = self.phase.denominator;
+        row[at + 2] = self.period.numerator;
+        row[at + 3] = self.period.denominator;
+        row[at + 4] = self.duration.numerator;
+        row[at + 5] = self.duration.denominator;
     }
 
     // Whether a denominator is 0.
