@@ -9,8 +9,9 @@ use native.Mathlib.Omega.{arith}
 use lib.Dec.{ltb}
 use lib.ListN.{length}
 use Rattle.refusal.specs.declared.Refusal.{Refusal}
-use Rattle.refusal.specs.declared.Refusal.the-variants.{TrainCount, ZeroDenominator, ZeroTime, DurationAbovePeriod, TickTooFine, TimeTooLong, BufferTooShort, WrongMark, WrongVersion, WrongLength, NotLowestTerms, NotATrain, NoEmptyPlace, Collision, NoTrainThere, WrongCount}
+use Rattle.refusal.specs.declared.Refusal.the-variants.{BufferTooShort}
 use Rattle.refusal.specs.Paper as refusals
+use Rattle.refusal.proofs.Promises.{number-most}
 use Rattle.train.specs.declared.Train.{Train}
 use Rattle.train.proofs.Least.{earliest-at, earliest-below}
 use Rattle.table.specs.Row.{capacity, longestRow, rowOf, trains}
@@ -53,27 +54,8 @@ told p fits = λ i. record { number = n i; kind = k i; value = v i }
     v : code p % 2 ^ 32 ≡ p .value
     v = omega (arith, fits .number, fits .kind, fits .value)
 
--- no refusal has a larger number than 17
-number-small : (r : Refusal) → refusals.paper r .number ≤ 17
-number-small TrainCount = omega arith
-number-small (ZeroDenominator train) = omega arith
-number-small (ZeroTime train) = omega arith
-number-small (DurationAbovePeriod train) = omega arith
-number-small (TickTooFine train) = omega arith
-number-small (TimeTooLong train) = omega arith
-number-small BufferTooShort = omega arith
-number-small WrongMark = omega arith
-number-small WrongVersion = omega arith
-number-small WrongLength = omega arith
-number-small (NotLowestTerms train) = omega arith
-number-small NotATrain = omega arith
-number-small NoEmptyPlace = omega arith
-number-small (Collision place) = omega arith
-number-small NoTrainThere = omega arith
-number-small WrongCount = omega arith
-
 pub refused-fits : (r : Refusal) → refusals.paper r .place ≤ refusals.none → Fits (refusedParts r)
-refused-fits r h = record { number = omega (arith, number-small r); kind = omega arith; value = omega arith }
+refused-fits r h = record { number = omega (arith, number-most r); kind = omega arith; value = omega arith }
 
 pub loaded-names : (bs : List ℕ) (room : ℕ) (r : Refusal) → loaded bs room ≡ loads.Refused r → refusals.paper r .place ≤ refusals.none
 loaded-names bs room r e = named-place (subst Named (loaded-refused (loadCheck bs room) _ r .0 e) (load-named bs room))
@@ -117,7 +99,7 @@ module _ (row : List ℕ) where
         omega (arith, figures .0, passed-limit row (so .0)),
         omega arith,
       )
-  short-row (verdicts.Refused r) e = (omega (arith, number-small r), omega (arith, row-named r e))
+  short-row (verdicts.Refused r) e = (omega (arith, number-most r), omega (arith, row-named r e))
 
   pub row-proper : Proper (verdict row)
   row-proper = record { named = row-named; short = short-row (verdict row) refl }
@@ -133,7 +115,7 @@ file-proper bs = go (loaded bs longestRow) refl
         let place = loaded-names bs longestRow r e in
         record {
           named = λ q h. let same : r ≡ q = cc in subst (λ (s : Refusal). refusals.paper s .place ≤ refusals.none) same place;
-          short = (omega (arith, number-small r), omega arith);
+          short = (omega (arith, number-most r), omega arith);
         }
 
 pub verdict-fits : (v : Verdict) → Proper v → Fits (verdictParts v)

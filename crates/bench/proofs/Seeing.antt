@@ -5,7 +5,7 @@ use Prim.Native.Nat.{ℕ, _<_}
 use mathlib.Core.Path.{_≡_, refl, ap}
 use native.Mathlib.Omega.{arith}
 use Rattle.refusal.specs.declared.Refusal.{Refusal}
-use Rattle.refusal.specs.declared.Refusal.the-variants.{TrainCount, ZeroDenominator, ZeroTime, DurationAbovePeriod, TickTooFine, TimeTooLong, BufferTooShort, WrongMark, WrongVersion, WrongLength, NotLowestTerms, NotATrain, NoEmptyPlace, Collision, NoTrainThere, WrongCount}
+use Rattle.refusal.proofs.Promises.{number-some}
 use Rattle.refusal.specs.Paper.{paper}
 use Rattle.judge.specs.declared.Verdict.{Verdict}
 use Rattle.judge.specs.declared.Verdict.the-variants as verdicts
@@ -25,25 +25,6 @@ use Rattle.bench.specs.Answer.{doneKind, acceptedKind, collideKind, idle
 use Rattle.bench.proofs.Fitting.{told}
 
 -- ---- Core laws
-
--- no refusal has the number 0
-number-some : (r : Refusal) → 0 < paper r .number
-number-some TrainCount = omega arith
-number-some (ZeroDenominator train) = omega arith
-number-some (ZeroTime train) = omega arith
-number-some (DurationAbovePeriod train) = omega arith
-number-some (TickTooFine train) = omega arith
-number-some (TimeTooLong train) = omega arith
-number-some BufferTooShort = omega arith
-number-some WrongMark = omega arith
-number-some WrongVersion = omega arith
-number-some WrongLength = omega arith
-number-some (NotLowestTerms train) = omega arith
-number-some NotATrain = omega arith
-number-some NoEmptyPlace = omega arith
-number-some (Collision place) = omega arith
-number-some NoTrainThere = omega arith
-number-some WrongCount = omega arith
 
 module _ {R : Type 0} where
   seen-refused : (r : Refusal) → Fits (refusedParts r) → R → Seen R (code (refusedParts r))

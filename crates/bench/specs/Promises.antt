@@ -10,7 +10,7 @@ use Rattle.judge.specs.declared.Verdict.the-variants.{Refused}
 use Rattle.judge.specs.Answer.{verdict}
 use Rattle.stored.specs.declared.Saved.the-variants as saves
 use Rattle.stored.specs.declared.Loaded.the-variants as loads
-use Rattle.stored.specs.Layout.{Words}
+use Rattle.table.specs.Row.{Words}
 use Rattle.stored.specs.Answer.{saved, loaded}
 use Rattle.file.specs.Answer.{fileVerdict}
 use Rattle.line.specs.declared.Written.the-variants as writes

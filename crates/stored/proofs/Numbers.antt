@@ -13,7 +13,7 @@ use Rattle.refusal.specs.Order.{Check, _when_, inTurn, None, Gives, refusalsOf,
 use Rattle.refusal.proofs.Answers.{Tells, gives-exactly, refusing-only, answers-not-refuse, answers-only, refusals-both, refusals-in-turn}
 use Rattle.table.specs.declared.Entry.{Entry}
 use Rattle.table.specs.declared.Outcome.{Outcome}
-use Rattle.table.specs.Row.{numbers, recordLength, entries, rowOf, lowestRow, lowestEntry}
+use Rattle.table.specs.Row.{Words, numbers, recordLength, entries, rowOf, lowestRow, lowestEntry}
 use Rattle.table.specs.Given.{checkedOrder}
 use Rattle.table.proofs.InOrder.{Follows}
 use Rattle.table.proofs.Numbers.{checked-in-order}
@@ -21,7 +21,7 @@ use Rattle.stored.specs.declared.Saved.{Saved}
 use Rattle.stored.specs.declared.Saved.the-variants as saves
 use Rattle.stored.specs.declared.Loaded.{Loaded}
 use Rattle.stored.specs.declared.Loaded.the-variants as loads
-use Rattle.stored.specs.Layout.{headLength, bytesOf, Bytes, Words, StoredAs}
+use Rattle.stored.specs.Layout.{headLength, bytesOf, Bytes, StoredAs}
 use Rattle.stored.specs.Found.{countIn, trainsIn}
 use Rattle.stored.specs.Given.{saveOrder, storedChecks, headChecks, loadOrder}
 use Rattle.stored.specs.Paper.{paperSaved, paperLoaded}

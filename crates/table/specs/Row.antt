@@ -1,4 +1,5 @@
 -- What stands in a row, in the words of the paper's "Fractions and the tick".
+--     Words row               every number of a row has 32 bits
 --     capacity                the most trains of a table
 --     numbers                 the numbers of a train in a row
 --     longestRow              the numbers of the longest row
@@ -36,6 +37,10 @@ use Rattle.fraction.specs.Value.{SameValue, IsTicks}
 use Rattle.fraction.specs.Answer.{lowest, wholeTicks, commonMultiple}
 use Rattle.train.specs.declared.Train.{Train}
 use Rattle.table.specs.declared.Entry.{Entry}
+
+-- Every number of a row has 32 bits, as those of a slice of 32-bit numbers have.
+abbrev pub Words : List ℕ → Type 0
+Words row = (i : ℕ) → getD row i 0 < 4294967296
 
 -- At most 64 trains.
 abbrev pub capacity : ℕ
