@@ -26,7 +26,7 @@ extern "C" {
 /* The kinds of all answers. No number stands for two of them. */
 enum urzabelki_kinds {
     URZABELKI_REFUSED = 0, /* any call: it was refused, and wrote nothing */
-    URZABELKI_DONE = 1, /* line, save, load, admit, withdraw: it was done */
+    URZABELKI_DONE = 1, /* line, save, load, import, export, admit, withdraw: it was done */
     URZABELKI_ACCEPTED = 2, /* judge: no tick is ever claimed by two trains */
     URZABELKI_COLLIDE = 3, /* judge: two trains claim a tick together */
     URZABELKI_IDLE = 4, /* step: nothing runs in this tick */
@@ -35,8 +35,8 @@ enum urzabelki_kinds {
 };
 
 /*
- * The refusals by number. There is no 7. The value of 2, 3, 4, 5, 6 and 12 is the train that is at fault, counted from 0; the value of
- * 15 is a place; the value of the others is URZABELKI_NO_PLACE.
+ * The refusals by number. The value of 2, 3, 4, 5, 6 and 12 is the train that is at fault, counted from 0; the value of 15 is a place; the
+ * value of 18 is the record of the listing, counted from 1, which may be above 64; the value of the others is URZABELKI_NO_PLACE.
  */
 enum urzabelki_refusals {
     URZABELKI_REFUSAL_TRAIN_COUNT = 1, /* a row is not six numbers a train, or a table has more than 64 trains */
@@ -45,6 +45,7 @@ enum urzabelki_refusals {
     URZABELKI_REFUSAL_DURATION_ABOVE_PERIOD = 4, /* a duration is longer than its period */
     URZABELKI_REFUSAL_TICK_TOO_FINE = 5, /* with this train the common tick of 1/L ms becomes too fine: L is above 1000000 */
     URZABELKI_REFUSAL_TIME_TOO_LONG = 6, /* a phase, a period or a duration is longer than 10000000 ticks of 1/L ms */
+    URZABELKI_REFUSAL_TEXT_TOO_LONG = 7, /* a listing has more than 32768 bytes */
     URZABELKI_REFUSAL_BUFFER_TOO_SHORT = 8, /* the memory that is lent for the result is too short for it */
     URZABELKI_REFUSAL_WRONG_MARK = 9, /* a stored table does not begin with the letters STT */
     URZABELKI_REFUSAL_WRONG_VERSION = 10, /* a stored table is of another version than 1 */
@@ -55,6 +56,7 @@ enum urzabelki_refusals {
     URZABELKI_REFUSAL_COLLISION = 15, /* the train would some day claim a tick together with the train at this place */
     URZABELKI_REFUSAL_NO_TRAIN_THERE = 16, /* the place is empty, or there is no such place */
     URZABELKI_REFUSAL_WRONG_COUNT = 17, /* the count is not the last one plus 1 */
+    URZABELKI_REFUSAL_BAD_RECORD = 18, /* a record of a listing is not the heading phase,period,duration or, behind it, three times, each n or n/m */
 };
 
 /* The trains of a table, at most. */
@@ -69,6 +71,12 @@ enum urzabelki_refusals {
 /* The bytes of the longest stored table: 7, and 24 for each of 64 trains. */
 #define URZABELKI_LONGEST_STORED 1543
 
+/* The bytes of the longest listing that is imported. */
+#define URZABELKI_LONGEST_TEXT 32768
+
+/* The bytes of the longest listing that is exported: 23 of heading, and 67 for each of 64 trains. With so much room none is refused. */
+#define URZABELKI_LONGEST_EXPORT 4311
+
 /*
  * The bytes of the longest line that urzabelki_line and urzabelki_line_stored write, its newline among them. With so much room
  * neither is refused, and there is a table whose line is so long. No zero byte comes behind a line.
@@ -81,7 +89,7 @@ enum urzabelki_refusals {
 /* The ticks of a phase, a delay, a period or a duration, at most. */
 #define URZABELKI_MAX_TICKS 10000000
 
-/* The value of a refusal that names no train and no place. */
+/* The value of a refusal that names no train, no place and no record. */
 #define URZABELKI_NO_PLACE 64
 
 /* The figures of a verdict. */
@@ -122,7 +130,8 @@ static inline uint32_t urzabelki_kind(uint64_t answer) { return (uint32_t)(answe
 /* The number of a refusal, one of enum urzabelki_refusals; 0 where the call was not refused. */
 static inline uint32_t urzabelki_refusal(uint64_t answer) { return (uint32_t)(answer >> 40); }
 
-/* The place, the length or the count that is answered; of a refusal the train or the place that it names, or URZABELKI_NO_PLACE. */
+/* The place, the length or the count that is answered; of a refusal the train, the place or the record that it names, or
+ * URZABELKI_NO_PLACE. */
 static inline uint32_t urzabelki_value(uint64_t answer) { return (uint32_t)answer; }
 
 /*
@@ -166,6 +175,24 @@ uint64_t urzabelki_save(const uint32_t *row, size_t length, uint8_t *bytes, size
  * ZERO_DENOMINATOR and NOT_LOWEST_TERMS of each time, ZERO_TIME, DURATION_ABOVE_PERIOD; then BUFFER_TOO_SHORT.
  */
 uint64_t urzabelki_load(const uint8_t *bytes, size_t length, uint32_t *row, size_t room);
+
+/*
+ * Imports a listing, colliding or not, to the front of `row`, in lowest terms; the numbers behind keep their values. Kind URZABELKI_DONE:
+ * the value is the count of trains, six numbers each.
+ * A listing is text of RFC 4180: records with CRLF between them, which may stand behind the last one too, of fields with commas between
+ * them; a field is quoted as a whole or not at all, and in quotes a doubled quote is one. The first record is phase,period,duration; each
+ * later one is a train of three fields, each n or n/m in decimal digits, n and m below 2^32, m not 0. A blank phase is 0.
+ * Refusals: TEXT_TOO_LONG by the length alone; BAD_RECORD for the first bad record of the whole text; TRAIN_COUNT; then train by train
+ * ZERO_TIME, DURATION_ABOVE_PERIOD; then BUFFER_TOO_SHORT.
+ */
+uint64_t urzabelki_import(const uint8_t *text, size_t length, uint32_t *row, size_t room);
+
+/*
+ * Exports a row, colliding or not, as a listing to the front of `text`: lowest terms, nothing quoted, n alone where m is 1, CRLF after every
+ * record. The bytes behind it keep their values, and no zero byte comes behind it. Kind URZABELKI_DONE: the value is its length.
+ * Refusals: TRAIN_COUNT; then train by train ZERO_DENOMINATOR, ZERO_TIME, DURATION_ABOVE_PERIOD; then BUFFER_TOO_SHORT.
+ */
+uint64_t urzabelki_export(const uint32_t *row, size_t length, uint8_t *text, size_t room);
 
 /*
  * Makes a dispatcher without a train, whatever the words were. Its first step is the one with the count after `count`; after 4294967295

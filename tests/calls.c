@@ -101,6 +101,30 @@ static void stores(void)
     holds("refuse 9 64", memcmp(text, "refuse 9 64\n", 12) == 0);
 }
 
+/* The 36/13 table is exported as a listing, and imported again. */
+static void lists(void)
+{
+    const uint32_t row[12] = {0, 13, 36, 13, 12, 13, 12, 13, 72, 13, 24, 26};
+    const uint32_t lowest[12] = {0, 1, 36, 13, 12, 13, 12, 13, 72, 13, 12, 13};
+    const char listing[] = "phase,period,duration\r\n0,36/13,12/13\r\n12/13,72/13,12/13\r\n";
+    const size_t length = sizeof listing - 1;
+    uint8_t text[URZABELKI_LONGEST_EXPORT];
+    uint32_t imported[13];
+    memset(text, UNTOUCHED, sizeof text);
+    memset(imported, UNTOUCHED, sizeof imported);
+    refuses("export with a byte of room too little", urzabelki_export(row, 12, text, length - 1), URZABELKI_REFUSAL_BUFFER_TOO_SHORT,
+            URZABELKI_NO_PLACE);
+    holds("a refused listing is not exported", text[0] == UNTOUCHED);
+    answers("export", urzabelki_export(row, 12, text, sizeof text), URZABELKI_DONE, (uint32_t)length);
+    holds("the listing is written, and no byte behind it", memcmp(text, listing, length) == 0 && text[length] == UNTOUCHED);
+    refuses("import with room for 11", urzabelki_import(text, length, imported, 11), URZABELKI_REFUSAL_BUFFER_TOO_SHORT, URZABELKI_NO_PLACE);
+    holds("a refused listing is not imported", imported[0] == 0xA5A5A5A5);
+    answers("import", urzabelki_import(text, length, imported, 13), URZABELKI_DONE, 2);
+    holds("it is in lowest terms, and no number behind it", memcmp(imported, lowest, sizeof lowest) == 0 && imported[12] == 0xA5A5A5A5);
+    text[30] = ';';
+    refuses("import a bad record", urzabelki_import(text, length, imported, 13), URZABELKI_REFUSAL_BAD_RECORD, 2);
+}
+
 /* The calls of the bench sheet, and some more. */
 static void dispatches(void)
 {
@@ -138,6 +162,7 @@ int main(void)
     judges();
     prints();
     stores();
+    lists();
     dispatches();
 #ifdef SHORT_ARRAY
     too_short();

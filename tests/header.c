@@ -216,10 +216,55 @@ static void steps(void)
     answers("the other starts", urzabelki_step(&dispatcher, 3), URZABELKI_STARTS, 1);
 }
 
+/* A listing of so many trains, the last record of which is the given text. Its length. */
+static size_t list(uint8_t *text, uint32_t trains, const char *last)
+{
+    size_t length = (size_t)sprintf((char *)text, "phase,period,duration\r\n");
+    for (uint32_t i = 0; i < trains; i++) {
+        length += (size_t)sprintf((char *)&text[length], "%u,64,1\r\n", i);
+    }
+    return length + (size_t)sprintf((char *)&text[length], "%s", last);
+}
+
+/* The longest listing that is imported, the longest that is exported, and the refusals of both. */
+static void listings(void)
+{
+    static uint8_t text[URZABELKI_LONGEST_TEXT + 1];
+    static uint32_t row[ROOM];
+    size_t length = 0;
+    /* leading zeros make one number as long as there is room for */
+    memset(text, '0', sizeof text);
+    memcpy(text, "phase,period,duration\r\n", 23);
+    memcpy(&text[URZABELKI_LONGEST_TEXT - 5], "1,1\r\n", 5);
+    memcpy(&text[URZABELKI_LONGEST_TEXT - 9], "7,00", 4);
+    answers("the longest listing is imported", urzabelki_import(text, URZABELKI_LONGEST_TEXT, row, ROOM), URZABELKI_DONE, 1);
+    refuses("and not one byte more", urzabelki_import(text, URZABELKI_LONGEST_TEXT + 1, row, ROOM), URZABELKI_REFUSAL_TEXT_TOO_LONG,
+            URZABELKI_NO_PLACE);
+    refuses("an empty listing", urzabelki_import(text, 0, row, ROOM), URZABELKI_REFUSAL_BAD_RECORD, 1);
+    answers("64 trains are imported", urzabelki_import(text, list(text, 64, ""), row, URZABELKI_LONGEST_ROW), URZABELKI_DONE, 64);
+    refuses("and not one more", urzabelki_import(text, list(text, 64, "0,1,1"), row, ROOM), URZABELKI_REFUSAL_TRAIN_COUNT, URZABELKI_NO_PLACE);
+    refuses("a bad record behind them", urzabelki_import(text, list(text, 70, "0;1;1"), row, ROOM), URZABELKI_REFUSAL_BAD_RECORD, 72);
+    refuses("a period of 0", urzabelki_import(text, list(text, 3, "0,0,1"), row, ROOM), URZABELKI_REFUSAL_ZERO_TIME, 3);
+    refuses("a duration above its period", urzabelki_import(text, list(text, 2, "0,1,3/2"), row, ROOM), URZABELKI_REFUSAL_DURATION_ABOVE_PERIOD, 2);
+    for (uint32_t i = 0; i < 64 * 3; i++) {
+        row[2 * i] = UINT32_MAX;
+        row[2 * i + 1] = UINT32_MAX - 1;
+        length += 2;
+    }
+    answers("the longest listing is exported", urzabelki_export(row, length, text, URZABELKI_LONGEST_EXPORT), URZABELKI_DONE,
+            URZABELKI_LONGEST_EXPORT);
+    refuses("and not with one byte less", urzabelki_export(row, length, text, URZABELKI_LONGEST_EXPORT - 1),
+            URZABELKI_REFUSAL_BUFFER_TOO_SHORT, URZABELKI_NO_PLACE);
+    refuses("a row of no whole number of trains", urzabelki_export(row, 7, text, sizeof text), URZABELKI_REFUSAL_TRAIN_COUNT, URZABELKI_NO_PLACE);
+    row[9] = 0;
+    refuses("a denominator of 0 at train 1", urzabelki_export(row, 12, text, sizeof text), URZABELKI_REFUSAL_ZERO_DENOMINATOR, 1);
+}
+
 int main(void)
 {
     rows();
     stored();
+    listings();
     limits();
     line();
     figures();

@@ -1,4 +1,4 @@
-// Standard input and standard output, with their faults. A call that was interrupted, or for which the other side is not
+// Standard input and standard output, with their faults, and standard error. A call that was interrupted, or for which the other side is not
 // ready yet, is made again. One that fails is said on standard error, in a line, and answered: it is no end of the input.
 // No public function has a `requires`. No contract can say which bytes come or go, for those of the C library do not.
 ghost use Prim.Native.Nat.{_≤_};
@@ -106,4 +106,9 @@ pub fn write(bytes: &[u8]) -> bool {
         done += taken;
     }
     true
+}
+
+// Writes the bytes to standard error. Where that cannot be done there is nobody to tell.
+pub fn complain(bytes: &[u8]) {
+    io::write_all(libc::STDERR_FILENO, bytes);
 }
