@@ -1,7 +1,7 @@
 -- Digits and the number that they stand for: what is found is there, and what is there is found.
 -- Core: digits-found and digits-read. The laws of a number, number-found and number-read, follow from these.
 -- Assumes nothing.
-use Prim.Native.Nat.{ℕ, _+_, _-_, _^_, _<_, _≤_}
+use Prim.Native.Nat.{ℕ, _^_, _<_, _≤_}
 use mathlib.Core.Path.{_≡_, refl, sym, ap, subst, _∙_}
 use mathlib.Core.Bool.{Bool, true, false, cond}
 use mathlib.Core.Logic.{_↔_}
@@ -11,7 +11,7 @@ use native.Mathlib.Omega.{arith}
 use lib.Dec.{ltb, leb}
 use lib.ListN.{length, getD}
 use borrow.Author.Tests.{lt-ltb, le-ltb, le-leb, ltb-true, ltb-false, leb-true}
-use Rattle.decimal.specs.Digits.{Digit, Digits, none, more, valueFrom, value, IsDecimal, Number, Stops}
+use Rattle.decimal.specs.Digits.{Digit, Digits, none, more, valueFrom, Number, Stops}
 use Rattle.decimal.specs.Answer.{decimal, isDigit, longer, Found, nothing, found, digitsFrom, numberIn}
 use Rattle.decimal.proofs.Notation.{decimal-is}
 
@@ -181,7 +181,7 @@ read-back n rest h s = number-read n (decimal n) rest (decimal-number n h) s
 
 -- ---- Exactly
 
-found-is : (l : List ℕ) (n : ℕ) (rest : List ℕ) → numberIn l ≡ found n rest → Numbered l n rest
+pub found-is : (l : List ℕ) (n : ℕ) (rest : List ℕ) → numberIn l ≡ found n rest → Numbered l n rest
 found-is l n rest e = go (numberIn l) (number-found l) e
   where
     go : (f : Found ℕ) → AsNumber l f → f ≡ found n rest → Numbered l n rest

@@ -1,4 +1,4 @@
--- What the private functions answer. No public contract cites this file; callers that go on with the text behind a number may.
+-- For callers that go on with the text behind a number. No contract of this crate cites this file; proofs/Ways.antt ties it to `read`.
 --     foundAt text number     what the code found in a text: it says where the number ends, and there the rest begins
 use Prim.Native.Nat.{ℕ}
 use mathlib.Core.List.{List}

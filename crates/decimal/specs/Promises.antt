@@ -5,7 +5,7 @@ use mathlib.Core.Logic.{_↔_}
 use mathlib.Core.List.{List, [], _++_}
 use lib.ListN.{length}
 use Rattle.decimal.specs.Digits.{IsDecimal, Number, Stops}
-use Rattle.decimal.specs.Answer.{decimal, nothing, found, numberIn}
+use Rattle.decimal.specs.Answer.{decimal, found, numberIn}
 
 pub record Promises : Type 0 where
   -- What is written for a number is its decimal notation, and there is no other.

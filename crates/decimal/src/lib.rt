@@ -4,9 +4,8 @@ ghost use mathlib.Core.Path.{_≡_};
 ghost use Prim.Native.Nat.{_+_, _≤_, _<_, _^_};
 ghost use lib.ListN.{length, drop};
 ghost use Rattle.lent.specs.Lent.{over, fitted};
-ghost use Rattle.decimal.specs.Answer.{decimal, endIn, isDigit, digitsFrom, numberAt};
+ghost use Rattle.decimal.specs.Answer.{decimal, endIn, isDigit, digitsFrom, indexed, numberAt};
 ghost use Rattle.decimal.specs.Answer.{longer as Answer·longer};
-ghost use Rattle.decimal.specs.Inside.{foundAt};
 
 // What `read` answers.
 pub enum Number {
@@ -80,7 +79,8 @@ fn longer(value: u64, digit: u8) -> u64
 
 // The number whose digits begin there, if it is below 2^32. No digit counts as 0, so the caller looks at the first.
 fn digits(text: &[u8], at: usize) -> Number
-    ensures { λ r. ⌜ foundAt (now (text .entry)) r ≡ digitsFrom 0 (drop at (now (text .entry))) ⌝ }
+    requires { ⌜ at ≤ length (now text) ⌝ }
+    ensures { λ r. ⌜ r ≡ indexed (length (now (text .entry))) (digitsFrom 0 (drop at (now (text .entry)))) ⌝ }
 {
     let mut value = 0;
     let mut next = at;
