@@ -1,1 +1,17 @@
 -- The laws of listing.
+--     Fronts              what a reader finds at the front of a text, and when it is exact
+--     Times               times and phases are read exactly
+--     Words               a word is read exactly
+--     Fields              a field, in quotes or without, and the byte behind it
+--     Records             a record of three fields: the heading, and a train
+--     Texts               what is read of a text is what it lists, and the record that is refused its first bad one
+--     Unique              a text has one list of records at most
+--     Counted             of a text that is well-formed to its end, the first bad record is the first that is not good
+pub mod Fronts
+pub mod Times
+pub mod Words
+pub mod Fields
+pub mod Records
+pub mod Texts
+pub mod Unique
+pub mod Counted
