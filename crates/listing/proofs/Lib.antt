@@ -7,6 +7,7 @@
 --     Texts               what is read of a text is what it lists, and the record that is refused its first bad one
 --     Unique              a text has one list of records at most
 --     Counted             of a text that is well-formed to its end, the first bad record is the first that is not good
+--     Importing           what is promised of import
 pub mod Fronts
 pub mod Times
 pub mod Words
@@ -15,3 +16,4 @@ pub mod Records
 pub mod Texts
 pub mod Unique
 pub mod Counted
+pub mod Importing

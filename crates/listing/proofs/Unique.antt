@@ -1,6 +1,6 @@
 -- A text has one list of records at most, whatever their fields say. The values of a field are taken off a text by a function
 -- that is used here alone; that it takes what stands there is all that is needed of it.
--- Core: field-taken; record-one and records-one follow by induction.
+-- Core: field-taken; record-one and files-one follow by induction.
 -- Assumes nothing.
 use Prim.Native.Nat.{ℕ}
 use mathlib.Core.Path.{_≡_, refl, sym, ap, _∙_}
@@ -145,14 +145,14 @@ ends-last b l of-text e = let z : _≡_ {A = ℕ} 0 1 = cc in omega arith
 ends-last b l of-line e = let same : [] ≡ b ∷ l = ap (drop 2) e in
     let z : _≡_ {A = ℕ} 0 1 = cc in omega arith
 
-pub records-one : {rs qs : List (List (List ℕ))} {l m : List ℕ} → File rs l → File qs m → l ≡ m → rs ≡ qs
-records-one (File.last {t = s} {e = e} p f) (File.last {t = t} {e = d} q g) w =
+pub files-one : {rs qs : List (List (List ℕ))} {l m : List ℕ} → File rs l → File qs m → l ≡ m → rs ≡ qs
+files-one (File.last {t = s} {e = e} p f) (File.last {t = t} {e = d} q g) w =
     ap (λ (r : List (List ℕ)). r ∷ []) (record-one e d p q (ends-over f) (ends-over g) w .values)
-records-one (File.last {t = s} {e = e} p f) (File.more {t = t} {rest = n} {b = b} q qs) w =
+files-one (File.last {t = s} {e = e} p f) (File.more {t = t} {rest = n} {b = b} q qs) w =
     absurd (ends-last b n f (record-one e (13 ∷ 10 ∷ b ∷ n) p q (ends-over f) next-line w .rests))
-records-one (File.more {t = s} {rest = n} {b = b} p ps) (File.last {t = t} {e = d} q g) w =
+files-one (File.more {t = s} {rest = n} {b = b} p ps) (File.last {t = t} {e = d} q g) w =
     absurd (ends-last b n g (sym (record-one (13 ∷ 10 ∷ b ∷ n) d p q next-line (ends-over g) w .rests)))
-records-one (File.more {t = s} {rest = n} {b = b} p ps) (File.more {t = t} {rest = o} {b = c} q qs) w =
+files-one (File.more {t = s} {rest = n} {b = b} p ps) (File.more {t = t} {rest = o} {b = c} q qs) w =
     let k = record-one (13 ∷ 10 ∷ b ∷ n) (13 ∷ 10 ∷ c ∷ o) p q next-line next-line w in
-    let next = records-one ps qs (ap (drop 2) (k .rests)) in
+    let next = files-one ps qs (ap (drop 2) (k .rests)) in
     λ i. k .values i ∷ next i
