@@ -1,4 +1,4 @@
--- The laws of listing.
+-- The laws of listing. Promises gathers what specs/Promises.antt states; callers cite the others.
 --     Fronts              what a reader finds at the front of a text, and when it is exact
 --     Times               times and phases are read exactly
 --     Words               a word is read exactly
@@ -8,6 +8,7 @@
 --     Unique              a text has one list of records at most
 --     Counted             of a text that is well-formed to its end, the first bad record is the first that is not good
 --     Importing           what is promised of import
+--     Layouts             the text of trains lists them; how long it is
 pub mod Fronts
 pub mod Times
 pub mod Words
@@ -17,3 +18,4 @@ pub mod Texts
 pub mod Unique
 pub mod Counted
 pub mod Importing
+pub mod Layouts
