@@ -1,5 +1,5 @@
 -- The text of trains: it lists just these trains, and how long it is.
--- Core: time-says, train-says, line-more, lines-listed; time-within, lines-within, lines-same. The rest follows from these.
+-- Core: time-says, train-says, lines-file, lines-say; time-within, lines-within, lines-same. The rest follows from these.
 -- Assumes nothing.
 use Prim.Native.Nat.{ℕ, zero, suc, _+_, _*_, _<_, _≤_}
 use mathlib.Core.Path.{_≡_, refl, sym, ap, subst, _∙_}

@@ -9,6 +9,7 @@
 --     Counted             of a text that is well-formed to its end, the first bad record is the first that is not good
 --     Importing           what is promised of import
 --     Layouts             the text of trains lists them; how long it is
+--     Exporting           what is promised of export
 pub mod Fronts
 pub mod Times
 pub mod Words
@@ -19,3 +20,4 @@ pub mod Unique
 pub mod Counted
 pub mod Importing
 pub mod Layouts
+pub mod Exporting
