@@ -44,7 +44,7 @@ data AdmissionPlaced : Admission → Type 0 where
 
 placed-fits : {a : Admission} → AdmissionPlaced a → Fits (admissionParts a)
 placed-fits (at h) = record { number = omega arith; kind = omega arith; value = omega arith }
-placed-fits (refuses {r} h) = refused-fits r h
+placed-fits (refuses {r} h) = refused-fits r (omega (arith, h))
 
 placed-at : {q : ℕ} → AdmissionPlaced (admissions.At q) → q < placeCount
 placed-at (at h) = h

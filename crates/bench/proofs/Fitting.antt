@@ -54,8 +54,8 @@ told p fits = λ i. record { number = n i; kind = k i; value = v i }
     v : code p % 2 ^ 32 ≡ p .value
     v = omega (arith, fits .number, fits .kind, fits .value)
 
-pub refused-fits : (r : Refusal) → refusals.paper r .place ≤ refusals.none → Fits (refusedParts r)
-refused-fits r h = record { number = omega (arith, number-most r); kind = omega arith; value = omega arith }
+pub refused-fits : (r : Refusal) → refusals.paper r .place < 2 ^ 32 → Fits (refusedParts r)
+refused-fits r h = record { number = omega (arith, number-most r); kind = omega arith; value = h }
 
 pub loaded-names : (bs : List ℕ) (room : ℕ) (r : Refusal) → loaded bs room ≡ loads.Refused r → refusals.paper r .place ≤ refusals.none
 loaded-names bs room r e = named-place (subst Named (loaded-refused (loadCheck bs room) _ r .0 e) (load-named bs room))
@@ -121,7 +121,7 @@ file-proper bs = go (loaded bs longestRow) refl
 pub verdict-fits : (v : Verdict) → Proper v → Fits (verdictParts v)
 verdict-fits (verdicts.Accepted f) proper = record { number = omega arith; kind = omega arith; value = omega arith }
 verdict-fits (verdicts.Collide m f) proper = record { number = omega arith; kind = omega arith; value = omega arith }
-verdict-fits (verdicts.Refused r) proper = refused-fits r (proper .named r refl)
+verdict-fits (verdicts.Refused r) proper = refused-fits r (omega (arith, proper .named r refl))
 
 -- ---- Lines
 
@@ -149,7 +149,7 @@ saved-fits row room = go (saved row room) refl
   where
     go : (s : Saved) → saved row room ≡ s → Fits (savedParts s)
     go (saves.Length n) e = record { number = omega arith; kind = omega arith; value = omega (arith, save-longest row room n e) }
-    go (saves.Refused r) e = refused-fits r (saved-names row room r e)
+    go (saves.Refused r) e = refused-fits r (omega (arith, saved-names row room r e))
 
 -- what is loaded is a table, and has no more trains
 pub loaded-few : (bs : List ℕ) (room k : ℕ) → loaded bs room ≡ loads.Count k → k ≤ capacity
@@ -160,4 +160,4 @@ loaded-fits bs room = go (loaded bs room) refl
   where
     go : (l : Loaded) → loaded bs room ≡ l → Fits (loadedParts l)
     go (loads.Count k) e = record { number = omega arith; kind = omega arith; value = omega (arith, loaded-few bs room k e) }
-    go (loads.Refused r) e = refused-fits r (loaded-names bs room r e)
+    go (loads.Refused r) e = refused-fits r (omega (arith, loaded-names bs room r e))

@@ -12,9 +12,11 @@
 --     Fits p                  each of the three has room in the number
 --     plain kind value        a call that was not refused
 --     refusedParts r          a call that was refused: the paper's number, and its train or place
---     verdictParts v, writtenParts w, savedParts s, loadedParts l, admissionParts a, withdrawalParts w, tickParts t
+--     verdictParts v, writtenParts w, savedParts s, loadedParts l, importedParts i, exportedParts e, admissionParts a,
+--     withdrawalParts w, tickParts t
 --                             the three of each answer
---     verdictCode v, writtenCode w, savedCode s, loadedCode l, admissionCode a, withdrawalCode w, tickCode t
+--     verdictCode v, writtenCode w, savedCode s, loadedCode l, importedCode i, exportedCode e, admissionCode a,
+--     withdrawalCode w, tickCode t
 --                             the number of each answer
 --     Seen refused answer     whether a call was refused is seen in its number in two ways, and both are right
 --     figureCount             how many figures there are
@@ -33,6 +35,10 @@ use Rattle.stored.specs.declared.Saved.{Saved}
 use Rattle.stored.specs.declared.Saved.the-variants as saves
 use Rattle.stored.specs.declared.Loaded.{Loaded}
 use Rattle.stored.specs.declared.Loaded.the-variants as loads
+use Rattle.listing.specs.declared.Imported.{Imported}
+use Rattle.listing.specs.declared.Imported.the-variants as imports
+use Rattle.listing.specs.declared.Exported.{Exported}
+use Rattle.listing.specs.declared.Exported.the-variants as exports
 use Rattle.line.specs.declared.Written.{Written}
 use Rattle.line.specs.declared.Written.the-variants as writes
 use Rattle.dispatcher.specs.declared.Admission.{Admission}
@@ -46,7 +52,7 @@ use Rattle.dispatcher.specs.declared.Tick.the-variants as ticks
 abbrev pub refusedKind : ℕ
 refusedKind = 0
 
--- A call that was done, and has no other kind: a line, a table that was saved or loaded, an admission, a withdrawal.
+-- A call that was done, and has no other kind: a line, a table that was saved or loaded, a listing, an admission, a withdrawal.
 abbrev pub doneKind : ℕ
 doneKind = 1
 
@@ -127,6 +133,16 @@ abbrev pub loadedParts : Loaded → Parts
 loadedParts (loads.Count k) = plain doneKind k
 loadedParts (loads.Refused r) = refusedParts r
 
+-- The count of trains.
+abbrev pub importedParts : Imported → Parts
+importedParts (imports.Count k) = plain doneKind k
+importedParts (imports.Refused r) = refusedParts r
+
+-- The length of the listing.
+abbrev pub exportedParts : Exported → Parts
+exportedParts (exports.Length n) = plain doneKind n
+exportedParts (exports.Refused r) = refusedParts r
+
 -- The place of the train.
 abbrev pub admissionParts : Admission → Parts
 admissionParts (admissions.At q) = plain doneKind q
@@ -159,6 +175,14 @@ savedCode s = code (savedParts s)
 -- The number of a table that was loaded.
 abbrev pub loadedCode : Loaded → ℕ
 loadedCode l = code (loadedParts l)
+
+-- The number of a listing that was imported.
+abbrev pub importedCode : Imported → ℕ
+importedCode i = code (importedParts i)
+
+-- The number of a listing that was exported.
+abbrev pub exportedCode : Exported → ℕ
+exportedCode e = code (exportedParts e)
 
 -- The number of an admission.
 abbrev pub admissionCode : Admission → ℕ

@@ -4,7 +4,7 @@
 use Prim.Native.Nat.{ℕ, zero, suc, _*_, _<_, _≤_, _∣_}
 use mathlib.Core.Path.{_≡_, refl, sym, ap, subst, _∙_}
 use mathlib.Core.Bool.{Bool, true, false}
-use mathlib.Core.Logic.{_↔_, Iff·trans, ⊎-elim}
+use mathlib.Core.Logic.{_↔_, Iff·trans, ⊎-elim, inr}
 use mathlib.Core.List.{List, [], _∷_, _++_, map}
 use native.Mathlib.Nat.{dvd-mul-left}
 use native.Mathlib.Omega.{arith}
@@ -21,7 +21,7 @@ use Rattle.fraction.specs.declared.Fraction.{Fraction}
 use Rattle.table.specs.declared.Entry.{Entry}
 use Rattle.table.specs.declared.Outcome.{Outcome}
 use Rattle.table.specs.declared.Outcome.the-variants as outcomes
-use Rattle.table.specs.Row.{numbers, noEntry, rowOf, lowestEntry, SameRow}
+use Rattle.table.specs.Row.{capacity, numbers, noEntry, rowOf, lowestEntry, SameRow}
 use Rattle.table.specs.Given.{NoDenominator, trainChecks, checkedOrder}
 use Rattle.table.specs.Answer.{checked}
 use Rattle.table.proofs.Checks.{refused-not-passed}
@@ -328,6 +328,20 @@ import-written text before es h y none =
     (ap paperImported (imported-trains text room es h y) ∙ trains-answered es room (length es) .1 (none, refl)) in
     row-is text before _ count
     ∙ ap (λ (x : Listed). rowOf (map lowestEntry (trainsOf x)) ++ drop (length es * numbers) before) (listing-read text es y)
+
+-- trains that pass refusal 1 are at most 64
+few-trains : (es : List Entry) (room : ℕ) → None (tableOrder es room) → length es ≤ capacity
+unfolding None
+few-trains es room none = go (ltb capacity (length es)) refl
+  where
+    go : (t : Bool) → ltb capacity (length es) ≡ t → length es ≤ capacity
+    go true e = absurd (none .0 (inr (omega (arith, row-length es, ltb-true capacity (length es) e))))
+    go false e = ltb-false _ _ e
+
+pub import-few : (text : List ℕ) (room k : ℕ) → paperImported (imported text room) ≡ answers k → k ≤ capacity
+import-few text room k e =
+    let found = import-answers text room k .0 e .1 in
+    omega (arith, few-trains (found .0) room (found .2), found .3)
 
 -- ---- The times and the verdict
 

@@ -41,7 +41,7 @@ pub record Promises : Type 0 where
       paperImported (imported text (length before)) ≡ refuse number place → rowAfter text before ≡ before
   pub import-never-2 : (text : List ℕ) (room train : ℕ) → paperImported (imported text room) ≡ refuse 2 train → ⊥
   -- Import answers a count exactly when the text is not too long, lists as many trains, and these pass 1 to 4 and have room; and it writes the
-  -- fractions of the fields in lowest terms. Whether they collide makes no difference.
+  -- fractions of the fields in lowest terms. There are at most 64. Whether they collide makes no difference.
   pub import-answers :
       (text : List ℕ) (room k : ℕ) →
       (paperImported (imported text room) ≡ answers k)
@@ -49,6 +49,7 @@ pub record Promises : Type 0 where
   pub import-written :
       (text before : List ℕ) (es : List Entry) → length text ≤ longestText → Listing text es → None (tableOrder es (length before)) →
       rowAfter text before ≡ rowOf (map lowestEntry es) ++ drop (length es * numbers) before
+  pub import-few : (text : List ℕ) (room k : ℕ) → paperImported (imported text room) ≡ answers k → k ≤ capacity
   -- What export looks for, in its turn: 1, then train by train 2, 3, 4, then 8.
   pub export-in-order :
       (row : List ℕ) (room : ℕ) →
