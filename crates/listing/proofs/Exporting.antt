@@ -151,7 +151,7 @@ module _ (row : List ℕ) (room : ℕ) (o : Outcome) (o-is : o ≡ checked row) 
 
 -- ---- What is so of a row that is exported
 
--- a row that is exported passes the checks, and its text has room
+-- It passes the checks, and the answer is the length of its text.
 pub record Exporting (row : List ℕ) (room n : ℕ) : Type 0 where
   pub passes : checked row ≡ outcomes.Passed
   pub count : n ≡ length (textOf (map lowestEntry (entries row)))
@@ -167,7 +167,7 @@ small-lowest f h small =
     let l = lowest-within f h in
     record { numerator = omega (arith, l .0, small .numerator); denominator = omega (arith, l .1, small .denominator) }
 
-pub lowest-sayable : (e : Entry) → SmallEntry e → HasDenominators e → SmallEntry (lowestEntry e) × HasDenominators (lowestEntry e)
+lowest-sayable : (e : Entry) → SmallEntry e → HasDenominators e → SmallEntry (lowestEntry e) × HasDenominators (lowestEntry e)
 lowest-sayable e small some = (
   record {
     phase = small-lowest (e .phase) (some .phase) (small .phase);
@@ -180,6 +180,12 @@ lowest-sayable e small some = (
     duration = lowest-terms (e .duration) (some .duration) .positive;
   },
 )
+
+-- trains that can be written can be in lowest terms
+pub lowest-all : (es : List Entry) → Sayable es → Sayable (map lowestEntry es)
+lowest-all es each i h =
+    let here = each i (omega (arith, length-map es lowestEntry)) in
+    subst (λ (e : Entry). SmallEntry e × HasDenominators e) (sym (lowest-at es i)) (lowest-sayable (getD es i noEntry) (here .0) (here .1))
 
 -- the trains of a row of 32-bit numbers have such numbers
 row-small : (row : List ℕ) → Words row → (i : ℕ) → i < length (entries row) → SmallEntry (getD (entries row) i noEntry)
@@ -196,12 +202,11 @@ row-small row words i h =
 
 -- in lowest terms they can be written
 pub row-sayable : (row : List ℕ) → Words row → checked row ≡ outcomes.Passed → Sayable (map lowestEntry (entries row))
-row-sayable row words passes i h =
-    let l : i < length (entries row) = omega (arith, length-map (entries row) lowestEntry) in
-    let sound = checked-sound row passes i l in
-    subst (λ (e : Entry). SmallEntry e × HasDenominators e) (sym (lowest-at (entries row) i))
-    (lowest-sayable (getD (entries row) i noEntry) (row-small row words i l)
-    (record { phase = sound .phase; period = sound .period; duration = sound .duration }))
+row-sayable row words passes =
+    lowest-all (entries row)
+    (λ i h.
+    let sound = checked-sound row passes i h in
+    (row-small row words i h, record { phase = sound .phase; period = sound .period; duration = sound .duration }))
 
 -- and their text is not too long
 pub row-within :

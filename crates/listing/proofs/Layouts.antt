@@ -9,8 +9,6 @@ use native.Mathlib.Omega.{arith}
 use lib.Dec.{eqb, leb}
 use lib.ListN.{length, getD, replicate, length-append}
 use borrow.Author.Tests.{eq-eqb, ne-eqb, eqb-true, eqb-false, leb-true}
-use Rattle.decimal.specs.Digits.{Digits}
-use Rattle.decimal.specs.Digits as digits
 use Rattle.decimal.specs.Answer.{leadingWithin, decimal}
 use Rattle.decimal.proofs.Notation.{decimal-u32}
 use Rattle.decimal.proofs.Numbers.{decimal-number}
@@ -22,21 +20,9 @@ use Rattle.listing.specs.Grammar as grammar
 use Rattle.listing.specs.Means.{slash, fraction, Time, whole, parts, time, phaseWord, periodWord, durationWord, heading, entry, Good, good, Goods, Listing}
 use Rattle.listing.specs.Means as means
 use Rattle.listing.specs.Layout.{timeText, headingText, recordText, textOf, longestText, longestExport, Small, SmallEntry, HasDenominators}
+use Rattle.listing.proofs.Times.{time-plain}
 
 -- ---- What is written says what it stands for
-
--- digits may stand without quotes
-digits-plain : {ds : List ℕ} → Digits ds → NonEscaped ds
-digits-plain digits.none = grammar.none
-digits-plain (digits.more {d = b} d ds) = grammar.more (high {b = b} (omega (arith, d .from)) (omega (arith, d .to))) (digits-plain ds)
-
-both-plain : {v w : List ℕ} → NonEscaped v → NonEscaped w → NonEscaped (v ++ w)
-both-plain grammar.none q = q
-both-plain (grammar.more b p) q = grammar.more b (both-plain p q)
-
-time-plain : {v : List ℕ} {f : Fraction} → Time v f → NonEscaped v
-time-plain (whole k) = digits-plain (k .digits)
-time-plain (parts j k h) = both-plain (digits-plain (j .digits)) (grammar.more (high {b = slash} (omega arith) (omega arith)) (digits-plain (k .digits)))
 
 pub time-says : (f : Fraction) → Small f → 0 < f .denominator → Time (timeText f) f
 unfolding timeText
@@ -53,7 +39,7 @@ time-says f small some = go (eqb (f .denominator) 1) refl
         parts (decimal-number (f .numerator) (small .numerator)) (decimal-number (f .denominator) (small .denominator)) some
 
 time-field : (f : Fraction) → Small f → 0 < f .denominator → Field (timeText f) (timeText f)
-time-field f small some = plain (time-plain (time-says f small some))
+time-field f small some = plain (time-plain (timeText f) f (time-says f small some))
 
 -- The values of the record of a train.
 abbrev values : Entry → List (List ℕ)

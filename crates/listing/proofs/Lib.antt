@@ -10,6 +10,7 @@
 --     Importing           what is promised of import
 --     Layouts             the text of trains lists them; how long it is
 --     Exporting           what is promised of export
+--     Again               what is exported and imported again
 pub mod Fronts
 pub mod Times
 pub mod Words
@@ -21,3 +22,5 @@ pub mod Counted
 pub mod Importing
 pub mod Layouts
 pub mod Exporting
+pub mod Again
+pub mod Promises
