@@ -1,7 +1,7 @@
 -- What the functions hand back and leave, on plain values: one law for each way through them, and for a call that answered what was meant.
 -- Core: the text of the definitions.
 -- Assumes nothing.
-use Prim.Native.Nat.{ℕ}
+use Prim.Native.Nat.{ℕ, _≤_}
 use mathlib.Core.Path.{_≡_, sym, ap, subst, _∙_}
 use mathlib.Core.List.{List, [], _∷_}
 use lib.Seq.{sets}
@@ -13,10 +13,16 @@ use Rattle.judge.specs.declared.Verdict.the-variants.{Accepted, Collide, Refuse
 use Rattle.stored.specs.declared.Saved.{Saved}
 use Rattle.stored.specs.declared.Loaded.{Loaded}
 use Rattle.stored.specs.Answer.{saved, savedIn, loaded, loadedIn}
+use Rattle.listing.specs.declared.Imported.{Imported}
+use Rattle.listing.specs.declared.Exported.{Exported}
+use Rattle.listing.specs.declared.Exported.the-variants as exports
+use Rattle.listing.specs.Layout.{longestExport}
+use Rattle.listing.specs.Answer.{imported, importedIn, exported, exportedIn}
 use Rattle.line.specs.declared.Written.{Written}
 use Rattle.line.specs.Answer.{written, writtenIn}
-use Rattle.bench.specs.Answer.{acceptedKind, collideKind, code, Fits, plain, refusedParts, verdictParts, verdictCode, writtenParts, writtenCode, savedParts, savedCode, loadedParts, loadedCode, figuresIn}
+use Rattle.bench.specs.Answer.{acceptedKind, collideKind, code, Fits, plain, refusedParts, verdictParts, verdictCode, writtenParts, writtenCode, savedParts, savedCode, loadedParts, loadedCode, importedParts, importedCode, exportedParts, exportedCode, figuresIn}
 use Rattle.bench.proofs.Fitting.{Proper, verdict-fits, written-fits, saved-fits, loaded-fits}
+use Rattle.bench.proofs.Listings.{imported-fits, exported-fits}
 
 -- ---- The ways through a verdict
 
@@ -86,3 +92,24 @@ module _ (bs : List ℕ) (room : ℕ) (l : Loaded) (l-is : l ≡ loaded bs room)
       (before after : List ℕ) (r : ℕ) → r ≡ loadedCode l → after ≡ loadedIn l bs before →
       (r ≡ loadedCode (loaded bs room)) × (after ≡ loadedIn (loaded bs room) bs before)
   hands-loaded before after r r-is left = (r-is ∙ ap loadedCode l-is, left ∙ ap (λ (t : Loaded). loadedIn t bs before) l-is)
+
+-- a listing that was imported
+module _ (text : List ℕ) (room : ℕ) (x : Imported) (x-is : x ≡ imported text room) where
+  pub imported-fitting : Fits (importedParts x)
+  imported-fitting = subst (λ (t : Imported). Fits (importedParts t)) (sym x-is) (imported-fits text room)
+
+  pub hands-imported :
+      (before after : List ℕ) (r : ℕ) → r ≡ importedCode x → after ≡ importedIn x text before →
+      (r ≡ importedCode (imported text room)) × (after ≡ importedIn (imported text room) text before)
+  hands-imported before after r r-is left = (r-is ∙ ap importedCode x-is, left ∙ ap (λ (t : Imported). importedIn t text before) x-is)
+
+-- a listing that was exported
+module _ (row : List ℕ) (room : ℕ) (x : Exported) (x-is : x ≡ exported row room) where
+  pub exported-fitting : ((n : ℕ) → x ≡ exports.Length n → n ≤ longestExport) → Fits (exportedParts x)
+  exported-fitting short =
+      subst (λ (t : Exported). Fits (exportedParts t)) (sym x-is) (exported-fits row room (λ n e. short n (x-is ∙ e)))
+
+  pub hands-exported :
+      (before after : List ℕ) (r : ℕ) → r ≡ exportedCode x → after ≡ exportedIn x row before →
+      (r ≡ exportedCode (exported row room)) × (after ≡ exportedIn (exported row room) row before)
+  hands-exported before after r r-is left = (r-is ∙ ap exportedCode x-is, left ∙ ap (λ (t : Exported). exportedIn t row before) x-is)

@@ -37,7 +37,7 @@ pub data Named : Outcome → Type 0 where
 pub named-place : {r : Refusal} → Named (Refused r) → paper r .place ≤ none
 named-place (names h) = h
 
-named-test : (b : Bool) (r : Refusal) → paper r .place ≤ none → Named (test b r)
+pub named-test : (b : Bool) (r : Refusal) → paper r .place ≤ none → Named (test b r)
 named-test true r h = names h
 named-test false r h = passes
 
@@ -46,7 +46,7 @@ named-more : (b : Bool) (r : Refusal) (p : Outcome) → paper r .place ≤ none 
 named-more true r p h next = names h
 named-more false r p h next = next refl
 
-named-then : (o p : Outcome) → Named o → (o ≡ Passed → Named p) → Named (orElse o p)
+pub named-then : (o p : Outcome) → Named o → (o ≡ Passed → Named p) → Named (orElse o p)
 named-then Passed p h next = next refl
 named-then (Refused r) p h next = h
 

@@ -13,6 +13,10 @@ use Rattle.stored.specs.declared.Saved.{Saved}
 use Rattle.stored.specs.declared.Saved.the-variants as saves
 use Rattle.stored.specs.declared.Loaded.{Loaded}
 use Rattle.stored.specs.declared.Loaded.the-variants as loads
+use Rattle.listing.specs.declared.Imported.{Imported}
+use Rattle.listing.specs.declared.Imported.the-variants as imports
+use Rattle.listing.specs.declared.Exported.{Exported}
+use Rattle.listing.specs.declared.Exported.the-variants as exports
 use Rattle.line.specs.declared.Written.{Written}
 use Rattle.line.specs.declared.Written.the-variants as writes
 use Rattle.dispatcher.specs.declared.Admission.{Admission}
@@ -21,7 +25,7 @@ use Rattle.dispatcher.specs.declared.Withdrawal.{Withdrawal}
 use Rattle.dispatcher.specs.declared.Withdrawal.the-variants as withdrawals
 use Rattle.dispatcher.specs.declared.Tick.{Tick}
 use Rattle.dispatcher.specs.declared.Tick.the-variants as ticks
-use Rattle.bench.specs.Answer.{doneKind, acceptedKind, collideKind, idleKind, startsKind, goesOnKind, Parts, code, Fits, plain, refusedParts, verdictParts, writtenParts, savedParts, loadedParts, admissionParts, withdrawalParts, tickParts, Seen}
+use Rattle.bench.specs.Answer.{doneKind, acceptedKind, collideKind, idleKind, startsKind, goesOnKind, Parts, code, Fits, plain, refusedParts, verdictParts, writtenParts, savedParts, loadedParts, importedParts, exportedParts, admissionParts, withdrawalParts, tickParts, Seen}
 use Rattle.bench.proofs.Fitting.{told}
 
 -- ---- Core laws
@@ -62,6 +66,14 @@ saved-seen (saves.Refused r) fits = seen-refused r fits (r, refl)
 pub loaded-seen : (l : Loaded) → Fits (loadedParts l) → Seen ((r : Refusal) × (l ≡ loads.Refused r)) (code (loadedParts l))
 loaded-seen (loads.Count k) fits = seen-plain doneKind k (omega arith) fits (λ x. let e = x .1 in cc)
 loaded-seen (loads.Refused r) fits = seen-refused r fits (r, refl)
+
+pub imported-seen : (x : Imported) → Fits (importedParts x) → Seen ((r : Refusal) × (x ≡ imports.Refused r)) (code (importedParts x))
+imported-seen (imports.Count k) fits = seen-plain doneKind k (omega arith) fits (λ x. let e = x .1 in cc)
+imported-seen (imports.Refused r) fits = seen-refused r fits (r, refl)
+
+pub exported-seen : (x : Exported) → Fits (exportedParts x) → Seen ((r : Refusal) × (x ≡ exports.Refused r)) (code (exportedParts x))
+exported-seen (exports.Length n) fits = seen-plain doneKind n (omega arith) fits (λ x. let e = x .1 in cc)
+exported-seen (exports.Refused r) fits = seen-refused r fits (r, refl)
 
 pub admission-seen :
     (a : Admission) → Fits (admissionParts a) → Seen ((r : Refusal) × (a ≡ admissions.Refused r)) (code (admissionParts a))

@@ -6,6 +6,8 @@ use dispatcher::Withdrawal;
 use judge::Meeting;
 use judge::Verdict;
 use line::Written;
+use listing::Exported;
+use listing::Imported;
 use refusal::Refusal;
 use stored::Loaded;
 use stored::Saved;
@@ -16,10 +18,11 @@ ghost use lib.ListN.{length};
 ghost use lib.Seq.{sets};
 ghost use Rattle.judge.specs.Answer.{verdict};
 ghost use Rattle.file.specs.Answer.{fileVerdict};
+ghost use Rattle.listing.specs.Answer.{imported, importedIn, exported, exportedIn};
 ghost use Rattle.line.specs.Answer.{written, writtenIn};
 ghost use Rattle.stored.specs.Answer.{saved, savedIn, loaded, loadedIn};
 ghost use Rattle.words.specs.Answer.{admissionIn, withdrawalIn, steppingIn, freshIn, admittedIn, withdrewIn, steppedIn};
-ghost use Rattle.bench.specs.Answer.{doneKind, code, Fits, plain, refusedParts, verdictParts, verdictCode, writtenParts, writtenCode, savedParts, savedCode, loadedParts, loadedCode, admissionParts, admissionCode, withdrawalParts, withdrawalCode, tickParts, tickCode, figureCount, figuresIn, longestLine};
+ghost use Rattle.bench.specs.Answer.{doneKind, code, Fits, plain, refusedParts, verdictParts, verdictCode, writtenParts, writtenCode, savedParts, savedCode, loadedParts, loadedCode, importedParts, importedCode, exportedParts, exportedCode, admissionParts, admissionCode, withdrawalParts, withdrawalCode, tickParts, tickCode, figureCount, figuresIn, longestLine};
 
 // Where L stands among the figures of a verdict.
 const MULTIPLE: usize = 0;
@@ -170,6 +173,28 @@ fn hand_loaded(loaded: Loaded) -> u64
     }
 }
 
+// The number of a listing that was imported.
+fn hand_imported(imported: Imported) -> u64
+    requires { ⌜ Fits (importedParts imported) ⌝ }
+    ensures { λ r. ⌜ r ≡ importedCode imported ⌝ }
+{
+    match imported {
+        Imported::Count(count) => done(count),
+        Imported::Refused(refusal) => refused(refusal),
+    }
+}
+
+// The number of a listing that was exported.
+fn hand_exported(exported: Exported) -> u64
+    requires { ⌜ Fits (exportedParts exported) ⌝ }
+    ensures { λ r. ⌜ r ≡ exportedCode exported ⌝ }
+{
+    match exported {
+        Exported::Length(length) => done(length),
+        Exported::Refused(refusal) => refused(refusal),
+    }
+}
+
 // A word as a place. It has 32 bits.
 fn wide(word: u32) -> usize
     ensures { λ r. ⌜ (r ≡ word) × (r < 2 ^ 32) ⌝ }
@@ -266,6 +291,24 @@ pub extern "C" fn urzabelki_load(bytes: &[u8], row: &mut [u32]) -> u64
     ensures memory { λ _. ⌜ now (row .exit) ≡ loadedIn (loaded (now (bytes .entry)) (length (now (row .entry)))) (now (bytes .entry)) (now (row .entry)) ⌝ }
 {
     hand_loaded(load::load(bytes, row))
+}
+
+// The import of a listing: the count of its trains, in lowest terms.
+#[no_mangle]
+pub extern "C" fn urzabelki_import(text: &[u8], row: &mut [u32]) -> u64
+    ensures answer { λ r. ⌜ r ≡ importedCode (imported (now (text .entry)) (length (now (row .entry)))) ⌝ }
+    ensures memory { λ _. ⌜ now (row .exit) ≡ importedIn (imported (now (text .entry)) (length (now (row .entry)))) (now (text .entry)) (now (row .entry)) ⌝ }
+{
+    hand_imported(importer::import(text, row))
+}
+
+// The export of a row: the length of its listing.
+#[no_mangle]
+pub extern "C" fn urzabelki_export(row: &[u32], text: &mut [u8]) -> u64
+    ensures answer { λ r. ⌜ r ≡ exportedCode (exported (now (row .entry)) (length (now (text .entry)))) ⌝ }
+    ensures memory { λ _. ⌜ now (text .exit) ≡ exportedIn (exported (now (row .entry)) (length (now (text .entry)))) (now (row .entry)) (now (text .entry)) ⌝ }
+{
+    hand_exported(exporter::export(row, text))
 }
 
 // A dispatcher without a train.

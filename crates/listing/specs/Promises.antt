@@ -102,9 +102,17 @@ pub record Promises : Type 0 where
       × (paperExported (exported (take (k * numbers) (rowAfter text before)) (length out)) ≡ answers n)
       × (paperImported (imported (take n (bufferAfter (take (k * numbers) (rowAfter text before)) out)) (length before)) ≡ answers k)
       × (rowAfter (take n (bufferAfter (take (k * numbers) (rowAfter text before)) out)) before ≡ rowAfter text before)
+  -- An empty text is a bad first record.
+  pub import-empty : (room : ℕ) → paperImported (imported [] room) ≡ refuse 18 1
   -- Examples: the text of the train (0, 36/13, 12/13), which is `phase,period,duration` and `0,36/13,12/13`; and the same train, read from
-  -- a text with quotes, leading zeros, other terms, a blank phase and no end behind the last record.
+  -- `"phase",period,duration` and `,"036/13",24/26`: quotes, a blank phase, a leading zero, other terms and no CRLF behind the last record.
   pub export-example :
       textOf (entry (fraction 0 1) (fraction 36 13) (fraction 12 13) ∷ [])
       ≡ 112 ∷ 104 ∷ 97 ∷ 115 ∷ 101 ∷ 44 ∷ 112 ∷ 101 ∷ 114 ∷ 105 ∷ 111 ∷ 100 ∷ 44 ∷ 100 ∷ 117 ∷ 114 ∷ 97 ∷ 116 ∷ 105 ∷ 111 ∷ 110 ∷ 13 ∷ 10
       ∷ 48 ∷ 44 ∷ 51 ∷ 54 ∷ 47 ∷ 49 ∷ 51 ∷ 44 ∷ 49 ∷ 50 ∷ 47 ∷ 49 ∷ 51 ∷ 13 ∷ 10 ∷ []
+  pub import-example :
+      rowAfter
+      (34 ∷ 112 ∷ 104 ∷ 97 ∷ 115 ∷ 101 ∷ 34 ∷ 44 ∷ 112 ∷ 101 ∷ 114 ∷ 105 ∷ 111 ∷ 100 ∷ 44 ∷ 100 ∷ 117 ∷ 114 ∷ 97 ∷ 116 ∷ 105 ∷ 111 ∷ 110
+      ∷ 13 ∷ 10 ∷ 44 ∷ 34 ∷ 48 ∷ 51 ∷ 54 ∷ 47 ∷ 49 ∷ 51 ∷ 34 ∷ 44 ∷ 50 ∷ 52 ∷ 47 ∷ 50 ∷ 54 ∷ [])
+      (7 ∷ 7 ∷ 7 ∷ 7 ∷ 7 ∷ 7 ∷ 7 ∷ [])
+      ≡ 0 ∷ 1 ∷ 36 ∷ 13 ∷ 12 ∷ 13 ∷ 7 ∷ []
