@@ -45,6 +45,68 @@ prints '' 2 speaks ./urzabelki verdict </
 prints '' 2 speaks ./urzabelki verdict "$stored" "$stored"
 prints '' 2 speaks ./urzabelki verdicts
 
+# ---- listings
+
+listing=examples/thirteenths.csv
+
+# A command writes just the bytes of a file, ends with 0 and says nothing.
+writes() { # FILE COMMAND..
+    local file=$1
+    shift
+    said "$@" || wrong "$* ends with $?, not 0"
+    cmp -s "$room/out" "$file" || wrong "$* does not write what $file has"
+    [ ! -s "$room/err" ] || wrong "$* says '$(cat "$room/err")'"
+}
+
+# A listing is refused with that line, nothing is written, and the words below it name what is wrong.
+refuses() { # LINE WORDS TEXT
+    local got=0
+    printf "$3" >"$room/listing.csv"
+    said ./urzabelki import "$room/listing.csv" || got=$?
+    [ "$got" -eq 1 ] || wrong "import of '$3' ends with $got, not 1"
+    [ ! -s "$room/out" ] || wrong "import of '$3' is refused, and writes"
+    [ "$(head -n 1 "$room/err")" = "$1" ] || wrong "import of '$3' says '$(head -n 1 "$room/err")', not '$1'"
+    grep -q "$2" <(tail -n +2 "$room/err") || wrong "import of '$3' does not say '$2'"
+    prints "$1" 1 quiet ./urzabelki verdict "$room/listing.csv"
+}
+
+writes examples/thirteenths.stt ./urzabelki import "$listing"
+writes examples/thirteenths.stt ./urzabelki import examples/quoted.csv
+writes examples/thirteenths.stt ./urzabelki import <"$listing"
+writes examples/thirteenths.stt ./urzabelki import <(cat "$listing")
+writes "$listing" ./urzabelki export examples/thirteenths.stt
+writes "$listing" ./urzabelki export <examples/thirteenths.stt
+prints 'accept 13 1' 0 quiet ./urzabelki verdict "$listing"
+prints 'accept 13 1' 0 quiet ./urzabelki verdict examples/quoted.csv
+prints 'refuse 18 4' 1 quiet ./urzabelki verdict examples/decimals.csv
+prints 'refuse 18 1' 1 quiet ./urzabelki verdict examples/line-ends.csv
+prints '' 1 speaks ./urzabelki export "$listing"
+prints '' 1 speaks ./urzabelki import examples/thirteenths.stt
+prints '' 1 speaks ./urzabelki import </dev/null
+for command in import export; do
+    prints '' 2 speaks ./urzabelki "$command" examples
+    prints '' 2 speaks ./urzabelki "$command" no-such-file
+    prints '' 2 speaks ./urzabelki "$command" </
+    prints '' 2 speaks ./urzabelki "$command" "$listing" "$listing"
+done
+heading='phase,period,duration\r\n'
+refuses 'refuse 18 1' 'LF alone' 'phase,period,duration\n0,1,1\n'
+refuses 'refuse 18 1' 'byte order mark' "\xef\xbb\xbf${heading}0,1,1\r\n"
+refuses 'refuse 18 1' 'UTF-16' 'p\0h\0a\0s\0e\0'
+refuses 'refuse 18 1' 'semicolons' 'phase;period;duration\r\n0;1;1\r\n'
+refuses 'refuse 18 2' 'decimal comma' "${heading}0;2,25;1\r\n"
+refuses 'refuse 18 3' 'decimal commas' "${heading}0,1,1\r\n0,\"2,25\",1\r\n"
+refuses 'refuse 18 2' 'decimal points' "${heading}0,2.25,1\r\n"
+refuses 'refuse 18 2' 'date' "${heading}0,13-Dec,1\r\n"
+refuses 'refuse 18 2' 'blanks' "${heading}0, 1,1\r\n"
+refuses 'refuse 18 2' 'is blank' "${heading}0,,1\r\n"
+refuses 'refuse 18 3' 'empty line' "${heading}0,1,1\r\n\r\n0,1,1\r\n"
+refuses 'refuse 18 2' '4294967295' "${heading}0,1,4294967296\r\n"
+refuses 'refuse 3 1' 'record 3' "${heading}0,1,1\r\n0,0,1\r\n"
+refuses 'refuse 4 0' 'record 2' "${heading}0,1,2\r\n"
+refuses 'refuse 1 64' '64 trains' "$heading$(printf '0,1,1\\r\\n%.0s' {1..65})"
+refuses 'refuse 7 64' '4311' "$heading$(printf '0%.0s' {1..32768}),1,1"
+
 # ---- a table that is keyed in
 
 prints 'accept 13 1' 0 quiet ./urzabelki judge 0 36/13 12/13 12/13 72/13 12/13
@@ -68,7 +130,7 @@ prints '' 2 speaks ./urzabelki replay </
 
 # ---- what cannot be printed is told
 
-for command in "verdict $stored" 'judge 0 1 1' 'replay examples/sheet.calls' sheet; do
+for command in "verdict $stored" "verdict $listing" "import $listing" 'export examples/thirteenths.stt' 'judge 0 1 1' 'replay examples/sheet.calls' sheet; do
     # the words of a command here have no spaces
     # shellcheck disable=SC2086
     ./urzabelki $command >/dev/full 2>"$room/err"
@@ -90,6 +152,7 @@ sees "./urzabelki verdict $stored" 'Trains 0 and 1'
 sees "./urzabelki verdict $stored" '11/13 ms'
 sees './urzabelki judge 0 3 10/3' "$(sed -n 's|^ *URZABELKI_REFUSAL_[A-Z_]* = 4, */\* \(.*\) \*/$|\1|p' include/urzabelki.h)"
 sees './urzabelki judge 0 1 1' 'Accepted'
+sees './urzabelki verdict examples/decimals.csv' 'decimal points'
 [[ $(seen "./urzabelki verdict $stored | cat") != *Trains* ]] || wrong "words go to a pipe"
 
 exit "$bad"

@@ -5,6 +5,7 @@
 set -uo pipefail
 bin=${1:-target/bin}
 table=examples/thirteenths.stt
+listing=examples/thirteenths.csv
 work=$(mktemp -d) || exit 2
 trap 'rm -rf "$work"' EXIT
 failed=0
@@ -33,6 +34,11 @@ printed() { # FILE WORDS
     cmp -s "$work/out" "$1" && [ ! -s "$work/err" ] || fails "$2"
 }
 
+# The last run printed nothing, and said the line of a refusal.
+refused() { # LINE WORDS
+    [ ! -s "$work/out" ] && [ "$(cat "$work/err")" = "$1" ] || fails "$2"
+}
+
 unread='standard input cannot be read'
 unwritten='standard output cannot be written'
 no_room='No space left on device'
@@ -53,7 +59,7 @@ printed crates/sheet/stdout "sheet judges the bench sheet, and says nothing else
 run "$bin/replay" </dev/null
 printed /dev/null "replay has no answer to an empty input, and says nothing"
 
-for program in verdict replay; do
+for program in verdict replay import export; do
     run "$bin/$program" <.
     said "$unread" 'Is a directory' "$program says that a directory cannot be read, and prints nothing"
     run "$bin/$program" <&-
@@ -69,6 +75,21 @@ said "$unwritten" "$no_room" "replay stops at the first write that fails"
 run_full "$bin/sheet"
 said "$unwritten" "$no_room" "sheet says once that its lines cannot be written"
 
+run_full "$bin/import" <"$listing"
+said "$unwritten" "$no_room" "import says that its table cannot be written"
+run_full "$bin/export" <"$table"
+said "$unwritten" "$no_room" "export says that its listing cannot be written"
+
+# An input without an end is too long, whatever it is.
+run "$bin/import" < <(yes '0,1,1')
+refused 'refuse 7 64' "import of an endless text ends, and writes nothing"
+run "$bin/export" </dev/zero
+refused 'refuse 9 64' "export of endless zeros ends, and writes nothing"
+
+run target/c/pipes late "$listing" "$bin/import"
+printed "$table" "import waits for a listing that comes late"
+run target/c/pipes late "$table" "$bin/export"
+printed "$listing" "export waits for a table that comes late"
 run target/c/pipes late "$table" "$bin/verdict"
 printed crates/verdict/stdout "verdict waits for a table that comes late"
 run target/c/pipes late crates/replay/stdin "$bin/replay"
