@@ -1,0 +1,2 @@
+-- The laws of importer: Ways has the ways through the code.
+pub mod Ways

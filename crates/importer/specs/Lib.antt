@@ -1,0 +1,2 @@
+-- What the private functions of importer answer. What `import` promises stands in listing.
+pub mod Inside

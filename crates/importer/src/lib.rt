@@ -1,0 +1,165 @@
+// Import: the text of a spreadsheet, RFC 4180, is read to a row, and no fraction is lost on the way. `import` has no `requires`; a
+// refusal writes nothing, and what follows the last number written keeps its value.
+use decimal::Number;
+use fraction::Fraction;
+use table::Entry;
+ghost use mathlib.Core.Path.{_≡_};
+ghost use Prim.Native.Nat.{_<_};
+ghost use lib.ListN.{drop, getD};
+ghost use Rattle.decimal.specs.Inside.{foundAt};
+ghost use Rattle.listing.specs.Answer.{parted, wordIn, passing, fieldIn, ended, headingIn};
+ghost use Rattle.importer.specs.Inside.{standing, timeOf, placeOf};
+
+// A time that was looked for: its value, and the index behind it.
+enum Time {
+    Missing,
+    Found(Fraction, usize),
+}
+
+// A record that was looked for: its train, and the index behind its end.
+enum Train {
+    Bad,
+    Good(Entry, usize),
+}
+
+// The index behind what was looked for.
+enum Behind {
+    Missing,
+    At(usize),
+}
+
+// The byte at an index; behind the end it is 0.
+fn byte_at(text: &[u8], at: usize) -> u8
+    ensures { λ r. ⌜ r ≡ getD (now (text .entry)) at 0 ⌝ }
+{
+    if at >= text.len() {
+        return 0;
+    }
+    text[at]
+}
+
+// The index behind a byte.
+fn byte_behind(text: &[u8], at: usize, byte: u8) -> Behind
+    requires { ⌜ 0 < byte ⌝ }
+    ensures { λ r. ⌜ placeOf (now (text .entry)) r ≡ passing byte (standing (drop at (now (text .entry)))) ⌝ }
+{
+    if byte_at(text, at) != byte {
+        return Behind::Missing;
+    }
+    Behind::At(at + 1)
+}
+
+// The index behind the end of a record.
+fn end_behind(text: &[u8], at: usize) -> Behind
+    ensures { λ r. ⌜ placeOf (now (text .entry)) r ≡ ended (standing (drop at (now (text .entry)))) ⌝ }
+{
+    if at >= text.len() {
+        return Behind::At(at);
+    }
+    if text[at] != b'\r' {
+        return Behind::Missing;
+    }
+    byte_behind(text, at + 1, b'\n')
+}
+
+// The time with a denominator that was looked for.
+fn part(text: &[u8], numerator: u32, denominator: Number) -> Time
+    ensures { λ r. ⌜ timeOf (now (text .entry)) r ≡ parted numerator (foundAt (now (text .entry)) denominator) ⌝ }
+{
+    let Number::Found(m, next) = denominator else {
+        return Time::Missing;
+    };
+    if m == 0 {
+        return Time::Missing;
+    }
+    Time::Found(
+        Fraction {
+            numerator: numerator,
+            denominator: m,
+        },
+        next,
+    )
+}
+
+// A time with a byte behind it.
+fn time_then(text: &[u8], time: Time, byte: u8) -> Time
+    requires { ⌜ 0 < byte ⌝ }
+    ensures { λ r. ⌜ timeOf (now (text .entry)) r ≡ passing byte (timeOf (now (text .entry)) time) ⌝ }
+{
+    let Time::Found(value, end) = time else {
+        return Time::Missing;
+    };
+    let Behind::At(next) = byte_behind(text, end, byte) else {
+        return Time::Missing;
+    };
+    Time::Found(value, next)
+}
+
+// A time with the end of a record behind it.
+fn time_ended(text: &[u8], time: Time) -> Time
+    ensures { λ r. ⌜ timeOf (now (text .entry)) r ≡ ended (timeOf (now (text .entry)) time) ⌝ }
+{
+    let Time::Found(value, end) = time else {
+        return Time::Missing;
+    };
+    let Behind::At(next) = end_behind(text, end) else {
+        return Time::Missing;
+    };
+    Time::Found(value, next)
+}
+
+// The index behind a word.
+fn word_at(text: &[u8], at: usize, word: &[u8]) -> Behind
+    ensures { λ r. ⌜ placeOf (now (text .entry)) r ≡ wordIn (now (word .entry)) (drop at (now (text .entry))) ⌝ }
+{
+    let mut next = at;
+    let mut letter = 0;
+    while letter < word.len() {
+        if next >= text.len() {
+            return Behind::Missing;
+        }
+        if text[next] != word[letter] {
+            return Behind::Missing;
+        }
+        next += 1;
+        letter += 1;
+    }
+    Behind::At(next)
+}
+
+// The index behind a word and a byte.
+fn word_then(text: &[u8], place: Behind, byte: u8) -> Behind
+    requires { ⌜ 0 < byte ⌝ }
+    ensures { λ r. ⌜ placeOf (now (text .entry)) r ≡ passing byte (placeOf (now (text .entry)) place) ⌝ }
+{
+    let Behind::At(end) = place else {
+        return Behind::Missing;
+    };
+    byte_behind(text, end, byte)
+}
+
+// The index behind a field that is a word, in quotes or without.
+fn word_field(text: &[u8], at: usize, word: &[u8]) -> Behind
+    ensures { λ r. ⌜ placeOf (now (text .entry)) r ≡ fieldIn (wordIn (now (word .entry))) (drop at (now (text .entry))) ⌝ }
+{
+    if byte_at(text, at) != b'"' {
+        return word_at(text, at, word);
+    }
+    word_then(text, word_at(text, at + 1, word), b'"')
+}
+
+// The index behind the heading.
+fn heading_end(text: &[u8]) -> Behind
+    ensures { λ r. ⌜ placeOf (now (text .entry)) r ≡ headingIn (now (text .entry)) ⌝ }
+{
+    let Behind::At(second) = word_then(text, word_field(text, 0, b"phase"), b',') else {
+        return Behind::Missing;
+    };
+    let Behind::At(third) = word_then(text, word_field(text, second, b"period"), b',') else {
+        return Behind::Missing;
+    };
+    let Behind::At(end) = word_field(text, third, b"duration") else {
+        return Behind::Missing;
+    };
+    end_behind(text, end)
+}
