@@ -12,8 +12,9 @@ use lib.Dec.{eqb}
 use lib.ListN.{length, getD, drop, drop-of-length-le, List·getD-eq-default}
 use lib.Seq.{drop-cons, drop-drop, getD-drop}
 use borrow.Author.Tests.{eq-eqb, ne-eqb}
-use Rattle.decimal.specs.Answer.{Found, nothing, found, numberIn}
+use Rattle.decimal.specs.Answer.{Found, nothing, found, numberIn, numberAt}
 use Rattle.decimal.specs.Inside.{foundAt}
+use Rattle.decimal.proofs.Ways.{found-again}
 use Rattle.decimal.specs.declared.Number.{Number}
 use Rattle.decimal.specs.declared.Number.the-variants as numbers
 use Rattle.fraction.specs.declared.Fraction.{Fraction}
@@ -49,6 +50,9 @@ module _ (text : List ℕ) (at : ℕ) where
       (eq-zero-or-pos (length text - at))
 
 -- ---- A number, and a time
+
+pub number-at : (text : List ℕ) (at : ℕ) (r : Number) → r ≡ numberAt text at → foundAt text r ≡ numberIn (drop at text)
+number-at text at r e = ap (foundAt text) e ∙ found-again text at
 
 pub told-number : (text : List ℕ) (r v : Number) (f : Found ℕ) → foundAt text r ≡ f → r ≡ v → foundAt text v ≡ f
 told-number text r v f e g = ap (foundAt text) (sym g) ∙ e
@@ -89,9 +93,23 @@ module _ (text : List ℕ) (r : Number) (n next : ℕ) (is-found : r ≡ numbers
     unfolding divided
     divided-whole h = rw (← told-number text r _ f e is-found, head-at text next, ← is, ne-eqb b slash h)
 
-    pub divided-parts : b ≡ slash → parted n (numberIn (drop (next + 1) text)) ≡ divided f
+    pub divided-parts : b ≡ slash → (m : Number) → m ≡ numberAt text (next + 1) → parted n (foundAt text m) ≡ divided f
     unfolding divided
-    divided-parts h = rw (← told-number text r _ f e is-found, head-at text next, ← is, eq-eqb b slash h, next-at text next)
+    divided-parts h m m-is =
+        ap (parted n) (number-at text (next + 1) m m-is)
+        ∙ rw (← told-number text r _ f e is-found, head-at text next, ← is, eq-eqb b slash h, next-at text next)
+
+pub phase-time :
+    (text l : List ℕ) (r : Time) → timeOf text r ≡ timeIn l → (f : Fraction) (end : ℕ) → r ≡ times.Found f end →
+    timeOf text r ≡ phaseIn l
+unfolding orBlank
+phase-time text l r e f end h =
+    let told : timeOf text r ≡ found f (drop end text) = ap (timeOf text) h in
+    told ∙ ap (orBlank l) (sym told ∙ e)
+
+pub phase-blank : (l : List ℕ) → nothing ≡ timeIn l → found blankPhase l ≡ phaseIn l
+unfolding orBlank
+phase-blank l e = ap (orBlank l) e
 
 -- ---- A byte behind, and the end of a record
 
@@ -304,4 +322,3 @@ module _ (word text : List ℕ) (at : ℕ) where
   pub word-same : (next : ℕ) → next ≡ at + length word → true ≡ beginsWith word (drop at text) → standing (drop next text) ≡ wordIn word (drop at text)
   unfolding wordIn
   word-same next e h = rw (← h, drop-drop (length word) at text, e)
-

@@ -7,8 +7,8 @@ ghost use mathlib.Core.Path.{_≡_};
 ghost use Prim.Native.Nat.{_<_};
 ghost use lib.ListN.{drop, getD};
 ghost use Rattle.decimal.specs.Inside.{foundAt};
-ghost use Rattle.listing.specs.Answer.{parted, wordIn, passing, fieldIn, ended, headingIn};
-ghost use Rattle.importer.specs.Inside.{standing, timeOf, placeOf};
+ghost use Rattle.listing.specs.Answer.{parted, timeIn, phaseIn, wordIn, passing, fieldIn, ended, headingIn, entryIn};
+ghost use Rattle.importer.specs.Inside.{standing, timeOf, placeOf, trainOf};
 
 // A time that was looked for: its value, and the index behind it.
 enum Time {
@@ -81,6 +81,42 @@ fn part(text: &[u8], numerator: u32, denominator: Number) -> Time
     )
 }
 
+// The time that begins there: n or n/m.
+fn time_at(text: &[u8], at: usize) -> Time
+    ensures { λ r. ⌜ timeOf (now (text .entry)) r ≡ timeIn (drop at (now (text .entry))) ⌝ }
+{
+    let Number::Found(n, next) = decimal::read(text, at) else {
+        return Time::Missing;
+    };
+    if byte_at(text, next) != b'/' {
+        return Time::Found(
+            Fraction {
+                numerator: n,
+                denominator: 1,
+            },
+            next,
+        );
+    }
+    part(text, n, decimal::read(text, next + 1))
+}
+
+// The phase that begins there: a time; where there is none it may still be blank, which is 0.
+fn phase_at(text: &[u8], at: usize) -> Time
+    ensures { λ r. ⌜ timeOf (now (text .entry)) r ≡ phaseIn (drop at (now (text .entry))) ⌝ }
+{
+    let time = time_at(text, at);
+    match time {
+        Time::Found(_, _) => time,
+        Time::Missing => Time::Found(
+            Fraction {
+                numerator: 0,
+                denominator: 1,
+            },
+            at,
+        ),
+    }
+}
+
 // A time with a byte behind it.
 fn time_then(text: &[u8], time: Time, byte: u8) -> Time
     requires { ⌜ 0 < byte ⌝ }
@@ -106,6 +142,49 @@ fn time_ended(text: &[u8], time: Time) -> Time
         return Time::Missing;
     };
     Time::Found(value, next)
+}
+
+// The field that begins there and says a time, in quotes or without.
+fn time_field(text: &[u8], at: usize) -> Time
+    ensures { λ r. ⌜ timeOf (now (text .entry)) r ≡ fieldIn timeIn (drop at (now (text .entry))) ⌝ }
+{
+    if byte_at(text, at) != b'"' {
+        return time_at(text, at);
+    }
+    time_then(text, time_at(text, at + 1), b'"')
+}
+
+// The field that begins there and says a phase, in quotes or without.
+fn phase_field(text: &[u8], at: usize) -> Time
+    ensures { λ r. ⌜ timeOf (now (text .entry)) r ≡ fieldIn phaseIn (drop at (now (text .entry))) ⌝ }
+{
+    if byte_at(text, at) != b'"' {
+        return phase_at(text, at);
+    }
+    time_then(text, phase_at(text, at + 1), b'"')
+}
+
+// The record of a train that begins there.
+fn entry_at(text: &[u8], at: usize) -> Train
+    ensures { λ r. ⌜ trainOf (now (text .entry)) r ≡ entryIn (drop at (now (text .entry))) ⌝ }
+{
+    let Time::Found(phase, second) = time_then(text, phase_field(text, at), b',') else {
+        return Train::Bad;
+    };
+    let Time::Found(period, third) = time_then(text, time_field(text, second), b',') else {
+        return Train::Bad;
+    };
+    let Time::Found(duration, next) = time_ended(text, time_field(text, third)) else {
+        return Train::Bad;
+    };
+    Train::Good(
+        Entry {
+            phase: phase,
+            period: period,
+            duration: duration,
+        },
+        next,
+    )
 }
 
 // The index behind a word.
