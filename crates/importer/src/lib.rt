@@ -2,13 +2,24 @@
 // refusal writes nothing, and what follows the last number written keeps its value.
 use decimal::Number;
 use fraction::Fraction;
+use listing::Imported;
+use refusal::Refusal;
 use table::Entry;
+use table::Outcome;
+use table::Table;
 ghost use mathlib.Core.Path.{_≡_};
+ghost use mathlib.Core.List.{map};
 ghost use Prim.Native.Nat.{_<_};
-ghost use lib.ListN.{drop, getD};
+ghost use lib.ListN.{length, drop, getD};
+ghost use Rattle.lent.specs.Lent.{over};
+ghost use Rattle.table.specs.declared.Outcome.the-variants.{Passed};
+ghost use Rattle.table.specs.Row.{rowOf, lowestEntry};
+ghost use Rattle.table.specs.Answer.{orElse, entryCheck};
 ghost use Rattle.decimal.specs.Inside.{foundAt};
 ghost use Rattle.listing.specs.Answer.{parted, timeIn, phaseIn, wordIn, passing, fieldIn, ended, headingIn, entryIn};
-ghost use Rattle.importer.specs.Inside.{standing, timeOf, placeOf, trainOf};
+ghost use Rattle.listing.specs.Answer.{trainsOf, imported, importedIn};
+ghost use Rattle.listing.specs.Layout.{longestText};
+ghost use Rattle.importer.specs.Inside.{standing, timeOf, placeOf, trainOf, listedFrom, tallied, trainsCheck, Ready};
 
 // A time that was looked for: its value, and the index behind it.
 enum Time {
@@ -26,6 +37,14 @@ enum Train {
 enum Behind {
     Missing,
     At(usize),
+}
+
+// What the records behind the heading say.
+enum Scanned {
+    // The number of the first bad record, the heading being 1.
+    Bad(usize),
+    // How many trains there are, and the first refusal among them.
+    Good(usize, Outcome),
 }
 
 // The byte at an index; behind the end it is 0.
@@ -241,4 +260,105 @@ fn heading_end(text: &[u8]) -> Behind
         return Behind::Missing;
     };
     end_behind(text, end)
+}
+
+// The refusal of the trains before, or that of the train at a position.
+fn refusal_so_far(before: Outcome, entry: Entry, position: usize) -> Outcome
+    ensures { λ r. ⌜ r ≡ orElse before (entryCheck position entry) ⌝ }
+{
+    match before {
+        Outcome::Refused(_) => before,
+        Outcome::Passed => entry.check(position),
+    }
+}
+
+// Reads all records behind the heading, the first of which begins at `first`.
+fn scan(text: &[u8], first: usize) -> Scanned
+    ensures { λ r. ⌜ r ≡ tallied 0 Passed (listedFrom (now (text .entry)) first) ⌝ }
+{
+    let mut at = first;
+    let mut count: usize = 0;
+    let mut outcome = Outcome::Passed;
+    while at < text.len() {
+        let Train::Good(entry, next) = entry_at(text, at) else {
+            return Scanned::Bad(count + 2);
+        };
+        outcome = refusal_so_far(outcome, entry, count);
+        at = next;
+        count += 1;
+    }
+    Scanned::Good(count, outcome)
+}
+
+// Refusals of so many trains, whose own first refusal is known: 1, then that one, then 8.
+fn check_trains(count: usize, trains: Outcome, room: usize) -> Outcome
+    ensures { λ r. ⌜ r ≡ trainsCheck count trains room ⌝ }
+{
+    if count > Table::CAPACITY {
+        return Outcome::Refused(Refusal::TrainCount);
+    }
+    match trains {
+        Outcome::Refused(_) => return trains,
+        Outcome::Passed => {}
+    }
+    if room < count * Table::NUMBERS {
+        return Outcome::Refused(Refusal::BufferTooShort);
+    }
+    Outcome::Passed
+}
+
+// A train with its times in lowest terms.
+fn lowest(entry: Entry) -> Entry
+    ensures { λ r. ⌜ r ≡ lowestEntry entry ⌝ }
+{
+    Entry {
+        phase: entry.phase.lowest(),
+        period: entry.period.lowest(),
+        duration: entry.duration.lowest(),
+    }
+}
+
+// Writes the trains of a listing without a bad record, whose first train begins at `first`, to the front of a row.
+fn put_entries(text: &[u8], first: usize, row: &mut [u32])
+    requires { ⌜ Ready (listedFrom (now text) first) (length (now row)) ⌝ }
+    ensures { λ _. ⌜ now (row .exit) ≡ over (now (row .entry)) 0 (rowOf (map lowestEntry (trainsOf (listedFrom (now (text .entry)) first)))) ⌝ }
+{
+    let mut at = first;
+    let mut position: usize = 0;
+    while at < text.len() {
+        let Train::Good(entry, next) = entry_at(text, at) else {
+            return;
+        };
+        lowest(entry).put(row, position * Table::NUMBERS);
+        at = next;
+        position += 1;
+    }
+}
+
+// Reads a listing to the front of `row`, in lowest terms, colliding or not, and answers how many trains it has; what follows them is
+// kept. Refusals: 7 by the length alone; then 18 for the first bad record; then 1; then train by train 3 and 4; then 8.
+pub fn import(text: &[u8], row: &mut [u32]) -> Imported
+    ensures answer { λ r. ⌜ r ≡ imported (now (text .entry)) (length (now (row .entry))) ⌝ }
+    ensures entries { λ r. ⌜ now (row .exit) ≡ importedIn r (now (text .entry)) (now (row .entry)) ⌝ }
+    ensures constants { λ _. do ⌜ (← ⟦Imported::LONGEST⟧ .entry) ≡ longestText ⌝ }
+{
+    if text.len() > Imported::LONGEST {
+        return Imported::Refused(Refusal::TextTooLong);
+    }
+    let Behind::At(first) = heading_end(text) else {
+        return Imported::Refused(Refusal::BadRecord(1));
+    };
+    let scanned = scan(text, first);
+    match scanned {
+        Scanned::Bad(record) => Imported::Refused(Refusal::BadRecord(record)),
+        Scanned::Good(count, trains) => {
+            let checked = check_trains(count, trains, row.len());
+            match checked {
+                Outcome::Refused(refusal) => return Imported::Refused(refusal),
+                Outcome::Passed => {}
+            }
+            put_entries(text, first, row);
+            Imported::Count(count)
+        }
+    }
 }
