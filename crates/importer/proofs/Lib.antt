@@ -1,3 +1,7 @@
--- The laws of importer: Ways has the ways through the code.
+-- The laws of importer.
+--     Ways                the ways through the code that reads a record
+--     Answers             the loop that reads all records, the checks, and the ways through `import`
+--     Writes              the loop that writes the trains
 pub mod Ways
 pub mod Answers
+pub mod Writes
