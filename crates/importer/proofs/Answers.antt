@@ -4,14 +4,14 @@
 use Prim.Native.Nat.{ℕ, zero, suc, _+_, _*_, _%_, _<_, _≤_}
 use mathlib.Core.Path.{_≡_, refl, sym, ap, subst, _∙_}
 use mathlib.Core.Bool.{Bool, true, false, cond, not}
-use mathlib.Core.List.{List, [], _∷_, map}
+use mathlib.Core.List.{List, [], _∷_, _++_, map}
 use native.Mathlib.Nat.{add-zero}
 use native.Mathlib.Numerals.{add-one}
 use native.Mathlib.Omega.{arith}
 use lib.Dec.{ltb, eqb}
 use lib.ListN.{length, drop, drop-of-length-le, length-drop, length-map}
 use lib.Seq.{drop-cons}
-use borrow.Author.Tests.{lt-ltb, le-ltb, eq-eqb}
+use borrow.Author.Tests.{lt-ltb, le-ltb, ltb-true, ltb-false}
 use Rattle.refusal.specs.declared.Refusal.{Refusal}
 use Rattle.refusal.specs.declared.Refusal.the-variants.{TrainCount, TextTooLong, BufferTooShort, BadRecord}
 use Rattle.lent.specs.Lent.{over}
@@ -22,7 +22,7 @@ use Rattle.table.specs.declared.Outcome.{Outcome}
 use Rattle.table.specs.declared.Outcome.the-variants.{Passed, Refused}
 use Rattle.table.specs.Row.{capacity, numbers, longestRow, entries, rowOf, lowestEntry}
 use Rattle.table.specs.Answer.{test, orElse, firstRefusal, entryCheck, checked}
-use Rattle.table.proofs.Checks.{checked-longer, checked-trains}
+use Rattle.table.proofs.Checks.{refused-not-passed, checked-longer, checked-trains}
 use Rattle.table.proofs.Rows.{row-length, row-entries}
 use Rattle.listing.specs.declared.Imported.{Imported}
 use Rattle.listing.specs.declared.Imported.the-variants as imports
@@ -31,12 +31,14 @@ use Rattle.listing.specs.Answer.{headingIn, entryIn, Listed, bad, trains, oneMo
 use Rattle.listing.specs.Answer.{tableCheck, importedAfter, importedOf, imported, importedIn}
 use Rattle.listing.proofs.Records.{entry-shorter}
 use Rattle.listing.proofs.Texts.{entriesIn, entries-bad, entries-on, listed-bad, listed-on}
+use Rattle.importer.specs.declared.Behind.{Behind}
+use Rattle.importer.specs.declared.Behind.the-variants as places
 use Rattle.importer.specs.declared.Train.{Train}
 use Rattle.importer.specs.declared.Train.the-variants as records
 use Rattle.importer.specs.declared.Scanned.{Scanned}
 use Rattle.importer.specs.declared.Scanned.the-variants as scans
-use Rattle.importer.specs.Inside.{standing, trainOf, listedFrom, tallied, trainsCheck, Ready}
-use Rattle.importer.proofs.Ways.{told-train}
+use Rattle.importer.specs.Inside.{placeOf, trainOf, listedFrom, tallied, trainsCheck, Ready}
+use Rattle.importer.proofs.Ways.{told-place, told-train}
 
 -- ---- Core laws
 
@@ -132,3 +134,117 @@ module _ (count : ℕ) (o : Outcome) (room : ℕ) where
 
       pub trains-pass : count * numbers ≤ room → Passed ≡ trainsCheck count o room
       trains-pass h = simp (le-ltb room (count * numbers) h) at past-count Passed passed
+
+-- where all pass there is room
+trains-fit : (count : ℕ) (o : Outcome) (room : ℕ) → trainsCheck count o room ≡ Passed → count * numbers ≤ room
+unfolding trainsCheck
+trains-fit count o room e = go (test (ltb capacity count) TrainCount) o (ltb room (count * numbers)) refl e
+  where
+    go :
+        (a b : Outcome) (t : Bool) → ltb room (count * numbers) ≡ t → orElse a (orElse b (test t BufferTooShort)) ≡ Passed →
+        count * numbers ≤ room
+    go (Refused r) b t h e = absurd (refused-not-passed r e)
+    go Passed (Refused r) t h e = absurd (refused-not-passed r e)
+    go Passed Passed true h e = absurd (refused-not-passed BufferTooShort e)
+    go Passed Passed false h e = ltb-false room (count * numbers) h
+
+-- the row of some trains has refusal 1 exactly where they are too many, and else theirs
+trains-checked : (es : List Entry) → checked (rowOf es) ≡ orElse (test (ltb capacity (length es)) TrainCount) (firstRefusal entryCheck 0 es)
+trains-checked es = go (ltb capacity (length es)) refl
+  where
+    even : length (rowOf es) % numbers ≡ 0
+    even = omega (arith, row-length es)
+
+    go : (t : Bool) → ltb capacity (length es) ≡ t → checked (rowOf es) ≡ orElse (test t TrainCount) (firstRefusal entryCheck 0 es)
+    go true e = sym (checked-longer (rowOf es) even (omega (arith, row-length es, ltb-true capacity (length es) e)))
+    go false e =
+        sym (checked-trains (rowOf es) even (omega (arith, row-length es, ltb-false capacity (length es) e)))
+        ∙ ap (firstRefusal entryCheck 0) (row-entries es)
+
+-- with the count and the first refusal of the trains, the check is that of the whole table
+trains-table : (es : List Entry) (room : ℕ) → trainsCheck (length es) (firstRefusal entryCheck 0 es) room ≡ tableCheck es room
+unfolding trainsCheck tableCheck
+trains-table es room =
+    sym (or-else (test (ltb capacity (length es)) TrainCount) (firstRefusal entryCheck 0 es) _)
+    ∙ ap (λ (o : Outcome). orElse o (test (ltb room (length es * numbers)) BufferTooShort)) (sym (trains-checked es))
+
+-- ---- The ways through `import`
+
+-- what is known of a listing of so many trains with that outcome
+record Known (x : Listed) (count : ℕ) (o : Outcome) : Type 0 where
+  good : x ≡ trains (trainsOf x)
+  counted : count ≡ length (trainsOf x)
+  refusal : o ≡ firstRefusal entryCheck 0 (trainsOf x)
+
+known : (x : Listed) (count : ℕ) (o : Outcome) → tallied 0 Passed x ≡ scans.Good count o → Known x count o
+known (bad k) count o e = absurd (let z : _≡_ {A = ℕ} 0 1 = cc in omega arith)
+known (trains es) count o e =
+    let same : 0 + length es ≡ count = cc in
+    record { good = refl; counted = omega arith; refusal = let told : firstRefusal entryCheck 0 es ≡ o = cc in sym told }
+
+bad-answer : (x : Listed) (k room : ℕ) → tallied 0 Passed x ≡ scans.Bad k → imports.Refused (BadRecord k) ≡ importedOf room x
+bad-answer (bad j) k room e = let same : j ≡ k = cc in ap (λ (n : ℕ). imports.Refused (BadRecord n)) (sym same)
+bad-answer (trains es) k room e = absurd (let z : _≡_ {A = ℕ} 0 1 = cc in omega arith)
+
+module _ (text : List ℕ) (room : ℕ) where
+  pub import-long : longestText < length text → imports.Refused TextTooLong ≡ imported text room
+  unfolding imported
+  import-long h = simp (lt-ltb longestText (length text) h)
+
+  module _ (short : length text ≤ longestText) where
+    import-listed : (x : Listed) → x ≡ listed text → importedOf room x ≡ imported text room
+    unfolding imported
+    import-listed x e = simp (le-ltb longestText (length text) short, e)
+
+    module _ (h : Behind) (h-is : placeOf text h ≡ headingIn text) where
+      pub import-headless : h ≡ places.Missing → imports.Refused (BadRecord 1) ≡ imported text room
+      import-headless e = import-listed (bad 1) (sym (listed-bad text (sym (told-place text h _ _ h-is e))))
+
+      module _ (first : ℕ) (headed : h ≡ places.At first) where
+        from-first : listedFrom text first ≡ listed text
+        from-first = sym (listed-on text (drop first text) tt (sym (told-place text h _ _ h-is headed)))
+
+        module _ (r : Scanned) (r-is : r ≡ tallied 0 Passed (listedFrom text first)) where
+          pub import-bad : (k : ℕ) → r ≡ scans.Bad k → imports.Refused (BadRecord k) ≡ imported text room
+          import-bad k e = bad-answer (listedFrom text first) k room (sym r-is ∙ e) ∙ import-listed (listedFrom text first) from-first
+
+          module _ (count : ℕ) (o : Outcome) (e : r ≡ scans.Good count o) (p : Outcome) (p-is : p ≡ trainsCheck count o room) where
+            sure : Known (listedFrom text first) count o
+            sure = known (listedFrom text first) count o (sym r-is ∙ e)
+
+            -- the answer, from the outcome of the checks
+            from-checks : importedAfter p count ≡ imported text room
+            from-checks =
+                let es : List Entry = trainsOf (listedFrom text first) in
+                let all : p ≡ tableCheck es room =
+                p-is
+                ∙ ap (λ (k : ℕ). trainsCheck k o room) (sure .counted)
+                ∙ ap (λ (q : Outcome). trainsCheck (length es) q room) (sure .refusal)
+                ∙ trains-table es room in
+                ap (λ (q : Outcome). importedAfter q count) all
+                ∙ ap (importedAfter (tableCheck es room)) (sure .counted)
+                ∙ ap (importedOf room) (sym (sure .good))
+                ∙ import-listed (listedFrom text first) from-first
+
+            pub import-refused : (refusal : Refusal) → p ≡ Refused refusal → imports.Refused refusal ≡ imported text room
+            import-refused refusal h = ap (λ (q : Outcome). importedAfter q count) (sym h) ∙ from-checks
+
+            pub import-answers : p ≡ Passed → imports.Count count ≡ imported text room
+            import-answers h = ap (λ (q : Outcome). importedAfter q count) (sym h) ∙ from-checks
+
+            pub import-ready : p ≡ Passed → Ready (listedFrom text first) room
+            import-ready h =
+                record { good = sure .good; fits = omega (arith, sure .counted, trains-fit count o room (sym p-is ∙ h)) }
+
+            pub import-writes :
+                (before now : List ℕ) → now ≡ over before 0 (rowOf (map lowestEntry (trainsOf (listedFrom text first)))) →
+                now ≡ importedIn (imports.Count count) text before
+            unfolding importedIn
+            import-writes before now w =
+                let es : List Entry = trainsOf (listedFrom text first) in
+                let long : length (rowOf (map lowestEntry es)) ≡ count * numbers =
+                row-length (map lowestEntry es)
+                ∙ ap (λ (n : ℕ). n * numbers) (length-map es lowestEntry ∙ sym (sure .counted)) in
+                w
+                ∙ over-front before (rowOf (map lowestEntry es)) (count * numbers) long
+                ∙ ap (λ (x : Listed). rowOf (map lowestEntry (trainsOf x)) ++ drop (count * numbers) before) from-first
