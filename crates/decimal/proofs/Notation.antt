@@ -163,7 +163,7 @@ unfolding valueFrom
 value-pos [] k h = absurd (omega arith)
 value-pos (d ∷ ds) k h = omega (arith, value-grows (0 * 10 + (d - 48)) (take k ds))
 
-digits-at : (ds : List ℕ) (i : ℕ) → Digits ds → i < length ds → Digit (getD ds i 0)
+pub digits-at : (ds : List ℕ) (i : ℕ) → Digits ds → i < length ds → Digit (getD ds i 0)
 digits-at [] i none h = absurd (omega arith)
 digits-at (d ∷ ds) zero (more g gs) h = g
 digits-at (d ∷ ds) (suc i) (more g gs) h = digits-at ds i gs (omega arith)

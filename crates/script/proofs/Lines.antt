@@ -1,7 +1,7 @@
 -- A line and the call that it says: what is read of it, it says, and what it says is read of it.
 -- Core: spelt-said and spells-spelt, of a text; line-said and says-read, of a line.
 -- Assumes nothing.
-use Prim.Native.Nat.{ℕ, zero, suc, _+_, _-_, _<_, _≤_}
+use Prim.Native.Nat.{ℕ, suc, _+_, _-_, _<_, _≤_}
 use mathlib.Core.Path.{_≡_, refl, sym, ap, subst, _∙_}
 use mathlib.Core.Bool.{Bool, true, false, cond}
 use mathlib.Core.Logic.{⊎-elim}
@@ -12,15 +12,18 @@ use lib.Dec.{ltb, eqb}
 use lib.ListN.{length, getD, take, drop, length-append, take-append-drop}
 use lib.Seq.{length-take-le, drop-length, drop-cons, take-all, take-append-seam, getD-append-seam, getD-append-add}
 use borrow.Author.Tests.{ltb-false, eqb-true, lt-ltb, le-ltb, ne-eqb}
+use Rattle.decimal.specs.Digits.{Digit, Number}
+use Rattle.decimal.specs.Answer.{Found, nothing, found}
+use Rattle.decimal.proofs.Notation.{digits-at}
 use Rattle.script.specs.declared.Call.{Call}
 use Rattle.script.specs.declared.Call.the-variants.{Bad, Fresh, Admit, Withdraw, Step}
 use Rattle.script.specs.declared.Single.{Single}
 use Rattle.script.specs.declared.Single.the-variants as singles
-use Rattle.script.specs.Says.{Digit, Digits, none, more, Number, space, return, freshWord, admitWord, withdrawWord, stepWord}
+use Rattle.script.specs.Says.{space, return, freshWord, admitWord, withdrawWord, stepWord}
 use Rattle.script.specs.Says.{Spells, fresh, admit, withdraw, step, longest, Ending, plain, returned, Says, says}
-use Rattle.script.specs.Answer.{isDigit, Found, nothing, found, numberIn, singleIn, freshOf, withdrawOf, stepOf, durationOf}
+use Rattle.script.specs.Answer.{spacedIn, singleIn, freshOf, withdrawOf, stepOf, durationOf}
 use Rattle.script.specs.Answer.{periodOf, delayOf, beginsWith, spelt, textLength, callIn}
-use Rattle.script.proofs.Numbers.{AsNumber, AsSingle, number-found, number-read, single-found, single-read}
+use Rattle.script.proofs.Numbers.{AsSpaced, AsSingle, spaced-found, spaced-read, space-stops, single-found, single-read}
 
 -- ---- A call or none
 
@@ -99,18 +102,18 @@ module _ (text : List ℕ) where
 
   period-said :
       (delay : ℕ) (ds rest : List ℕ) → Number delay ds → text ≡ admitWord ++ (space ∷ ds ++ rest) →
-      (f : Found) → AsNumber rest f → Said (periodOf delay f)
+      (f : Found ℕ) → AsSpaced rest f → Said (periodOf delay f)
   period-said delay ds rest j e nothing r = tt
   period-said delay ds rest j e (found period after) r =
       duration-said delay period ds (r .ds) after j (r .number)
       (e ∙ ap (λ (l : List ℕ). admitWord ++ (space ∷ ds ++ l)) (r .whole))
       (singleIn after) (single-found after)
 
-  delay-said : text ≡ admitWord ++ drop 5 text → (f : Found) → AsNumber (drop 5 text) f → Said (delayOf f)
+  delay-said : text ≡ admitWord ++ drop 5 text → (f : Found ℕ) → AsSpaced (drop 5 text) f → Said (delayOf f)
   delay-said e nothing r = tt
   delay-said e (found delay after) r =
       period-said delay (r .ds) after (r .number) (e ∙ ap (λ (l : List ℕ). admitWord ++ l) (r .whole))
-      (numberIn after) (number-found after)
+      (spacedIn after) (spaced-found after)
 
   pub spelt-said : Said (spelt text)
   unfolding spelt
@@ -123,12 +126,12 @@ module _ (text : List ℕ) where
           (w : Bool) → beginsWith withdrawWord text ≡ w → (f : Bool) → beginsWith freshWord text ≡ f →
           Said
           (cond s (stepOf (singleIn (drop 4 text)))
-          (cond a (delayOf (numberIn (drop 5 text)))
+          (cond a (delayOf (spacedIn (drop 5 text)))
           (cond w (withdrawOf (singleIn (drop 8 text)))
           (cond f (freshOf (singleIn (drop 5 text)))
           Bad))))
       go true e a h w i f j = step-said (begins-is stepWord text e) (singleIn (drop 4 text)) (single-found (drop 4 text))
-      go false e true h w i f j = delay-said (begins-is admitWord text h) (numberIn (drop 5 text)) (number-found (drop 5 text))
+      go false e true h w i f j = delay-said (begins-is admitWord text h) (spacedIn (drop 5 text)) (spaced-found (drop 5 text))
       go false e false h true i f j = withdraw-said (begins-is withdrawWord text i) (singleIn (drop 8 text)) (single-found (drop 8 text))
       go false e false h false i true j = fresh-said (begins-is freshWord text j) (singleIn (drop 5 text)) (single-found (drop 5 text))
       go false e false h false i false j = tt
@@ -136,13 +139,13 @@ module _ (text : List ℕ) where
 -- ---- What a text says is read of it
 
 pub spells-spelt : {text : List ℕ} {call : Call} → Spells text call → spelt text ≡ call
-unfolding spelt beginsWith isDigit
+unfolding spelt beginsWith
 spells-spelt (fresh {c} {ds} k) = ap freshOf (single-read c ds k)
 spells-spelt (withdraw {place} {ds} k) = ap withdrawOf (single-read place ds k)
 spells-spelt (step {c} {ds} k) = ap stepOf (single-read c ds k)
 spells-spelt (admit {delay} {period} {duration} {ds} {es} {fs} j k l) =
-    ap delayOf (number-read delay ds (space ∷ es ++ space ∷ fs) j refl)
-    ∙ ap (periodOf delay) (number-read period es (space ∷ fs) k refl)
+    ap delayOf (spaced-read delay ds (space ∷ es ++ space ∷ fs) j (space-stops (es ++ space ∷ fs)))
+    ∙ ap (periodOf delay) (spaced-read period es (space ∷ fs) k (space-stops fs))
     ∙ ap (durationOf delay period) (single-read duration fs l)
 
 -- ---- The end of a line
@@ -151,11 +154,6 @@ spells-spelt (admit {delay} {period} {duration} {ds} {es} {fs} j k l) =
 record EndsInDigit (l : List ℕ) : Type 0 where
   some : 0 < length l
   last : Digit (getD l (length l - 1) 0)
-
-digits-at : (ds : List ℕ) (i : ℕ) → Digits ds → i < length ds → Digit (getD ds i 0)
-digits-at [] i none h = absurd (omega arith)
-digits-at (d ∷ ds) zero (more g gs) h = g
-digits-at (d ∷ ds) (suc i) (more g gs) h = digits-at ds i gs (omega arith)
 
 number-ends : (n : ℕ) (ds : List ℕ) → Number n ds → EndsInDigit ds
 number-ends n ds k = record { some = k .some; last = digits-at ds (length ds - 1) (k .digits) (omega (arith, k .some)) }

@@ -1,98 +1,46 @@
 -- The ways through the code, on plain values: where a text is read at an index, and one law for each return.
--- Core: digits-at, number-behind and begins-at, which say what the definitions are at an index. The rest follows from these.
+-- Core: spaced-behind and begins-at, which say what the definitions are at an index. The rest follows from these.
 -- Assumes nothing.
-use Prim.Native.Nat.{ℕ, suc, _+_, _-_, _^_, _<_, _≤_}
+use Prim.Native.Nat.{ℕ, _+_, _-_, _<_, _≤_}
 use mathlib.Core.Path.{_≡_, refl, sym, ap, _∙_}
-use mathlib.Core.Bool.{Bool, true, false, cond}
+use mathlib.Core.Bool.{true, false, cond}
 use mathlib.Core.List.{List, [], _∷_}
-use native.Mathlib.Nat.{add-zero}
 use native.Mathlib.Numerals.{add-one}
 use native.Mathlib.Omega.{arith}
-use lib.Dec.{ltb, leb, eqb}
-use lib.ListN.{length, getD, take, drop, drop-of-length-le, List·getD-eq-default}
-use lib.Seq.{drop-cons, getD-drop}
-use borrow.Author.Tests.{lt-ltb, le-ltb, eq-eqb, ne-eqb, ltb-false}
+use lib.Dec.{eqb}
+use lib.ListN.{length, getD, take, drop, drop-of-length-le}
+use lib.Seq.{drop-cons}
+use borrow.Author.Tests.{lt-ltb, le-ltb, eq-eqb, ne-eqb}
+use Rattle.decimal.specs.declared.Number.{Number}
+use Rattle.decimal.specs.Answer.{Found, nothing, found, numberIn, numberAt}
+use Rattle.decimal.specs.Inside.{foundAt}
+use Rattle.decimal.proofs.Ways.{found-again}
 use Rattle.script.specs.declared.Call.the-variants.{Bad}
-use Rattle.script.specs.declared.Number.{Number}
 use Rattle.script.specs.declared.Single.the-variants as singles
 use Rattle.script.specs.Says.{space, return, freshWord, admitWord, withdrawWord, stepWord, longest}
-use Rattle.script.specs.Answer.{isDigit, longer, Found, nothing, found, digitsFrom, numberIn, singleOf, singleIn, freshOf}
+use Rattle.script.specs.Answer.{spacedIn, singleOf, singleIn, freshOf}
 use Rattle.script.specs.Answer.{delayOf, withdrawOf, stepOf, beginsWith, spelt, textLength, callIn}
-use Rattle.script.specs.Inside.{foundAt}
-
--- ---- Digits
-
-module _ (b : ℕ) where
-  pub digit-below : b < 48 → false ≡ isDigit b
-  unfolding isDigit
-  digit-below h = simp (lt-ltb b 48 h)
-
-  pub digit-from : 48 ≤ b → leb b 57 ≡ isDigit b
-  unfolding isDigit
-  digit-from h = simp (le-ltb b 48 h)
-
-  pub is-from : isDigit b ≡ true → 48 ≤ b
-  unfolding isDigit
-  is-from h = go (ltb b 48) refl h
-    where
-      go : (t : Bool) → ltb b 48 ≡ t → cond t false (leb b 57) ≡ true → 48 ≤ b
-      go true e g = absurd (let z : _≡_ {A = ℕ} 0 1 = cc in omega arith)
-      go false e g = ltb-false b 48 e
-
-module _ (v : ℕ) (text : List ℕ) (at : ℕ) where
-  pub digits-end : length text ≤ at → found v (drop at text) ≡ digitsFrom v (drop at text)
-  unfolding digitsFrom
-  digits-end h = rw (drop-of-length-le text h)
-
-  digits-at :
-      at < length text →
-      digitsFrom v (drop at text)
-      ≡ cond (isDigit (getD text at 0))
-      (cond (ltb (longer v (getD text at 0)) (2 ^ 32)) (digitsFrom (longer v (getD text at 0)) (drop (at + 1) text)) nothing)
-      (found v (drop at text))
-  unfolding digitsFrom
-  digits-at h = rw (add-one, drop-cons text at 0 h)
-
-  module _ (within : at < length text) where
-    pub digits-stop : isDigit (getD text at 0) ≡ false → found v (drop at text) ≡ digitsFrom v (drop at text)
-    digits-stop h = rw (digits-at within, h)
-
-    module _ (digit : isDigit (getD text at 0) ≡ true) (w : ℕ) (w-is : w ≡ longer v (getD text at 0)) where
-      pub digits-on : w < 2 ^ 32 → digitsFrom w (drop (at + 1) text) ≡ digitsFrom v (drop at text)
-      digits-on h = rw (digits-at within, digit, ← w-is, lt-ltb w (2 ^ 32) h)
-
-      pub digits-over : 2 ^ 32 ≤ w → nothing ≡ digitsFrom v (drop at text)
-      digits-over h = rw (digits-at within, digit, ← w-is, le-ltb w (2 ^ 32) h)
 
 -- ---- A number
 
 module _ (text : List ℕ) (at : ℕ) where
-  pub number-end : length text ≤ at → nothing ≡ numberIn (drop at text)
-  unfolding numberIn
-  number-end h = rw (drop-of-length-le text h)
+  pub spaced-end : length text ≤ at → nothing ≡ spacedIn (drop at text)
+  unfolding spacedIn
+  spaced-end h = rw (drop-of-length-le text h)
 
   module _ (within : at < length text) where
-    number-behind :
-        numberIn (drop at text)
-        ≡ cond (eqb (getD text at 0) space)
-        (cond (isDigit (getD text (at + 1) 0)) (digitsFrom 0 (drop (at + 1) text)) nothing)
-        nothing
-    unfolding numberIn
-    number-behind = rw (add-one at, drop-cons text at 0 within, getD-drop (suc at) text 0 0, add-zero)
+    spaced-behind : spacedIn (drop at text) ≡ cond (eqb (getD text at 0) space) (numberIn (drop (at + 1) text)) nothing
+    unfolding spacedIn
+    spaced-behind = rw (add-one at, drop-cons text at 0 within)
 
-    pub number-no-space : (getD text at 0 ≡ space → ⊥) → nothing ≡ numberIn (drop at text)
-    number-no-space h = rw (number-behind, ne-eqb (getD text at 0) space h)
+    pub spaced-none : (getD text at 0 ≡ space → ⊥) → nothing ≡ spacedIn (drop at text)
+    spaced-none h = rw (spaced-behind, ne-eqb (getD text at 0) space h)
 
-    module _ (spaced : getD text at 0 ≡ space) where
-      pub number-space-end : length text ≤ at + 1 → nothing ≡ numberIn (drop at text)
-      unfolding isDigit
-      number-space-end h = rw (number-behind, eq-eqb (getD text at 0) space spaced, List·getD-eq-default text 0 h)
-
-      pub number-no-digit : isDigit (getD text (at + 1) 0) ≡ false → nothing ≡ numberIn (drop at text)
-      number-no-digit h = rw (number-behind, eq-eqb (getD text at 0) space spaced, h)
-
-      pub number-digits : isDigit (getD text (at + 1) 0) ≡ true → digitsFrom 0 (drop (at + 1) text) ≡ numberIn (drop at text)
-      number-digits h = rw (number-behind, eq-eqb (getD text at 0) space spaced, h)
+    pub spaced-number :
+        (r : Number) → getD text at 0 ≡ space → r ≡ numberAt text (at + 1) → foundAt text r ≡ spacedIn (drop at text)
+    spaced-number r h e =
+        let there : numberIn (drop (at + 1) text) ≡ spacedIn (drop at text) = rw (spaced-behind, eq-eqb (getD text at 0) space h) in
+        ap (foundAt text) e ∙ found-again text (at + 1) ∙ there
 
 -- ---- A word
 
@@ -143,14 +91,14 @@ module _ (line : List ℕ) where
 -- ---- A number and what follows it
 
 -- what a call answered is what it was told to be
-pub told : (text : List ℕ) (r v : Number) (f : Found) → foundAt text r ≡ f → r ≡ v → foundAt text v ≡ f
+pub told : (text : List ℕ) (r v : Number) (f : Found ℕ) → foundAt text r ≡ f → r ≡ v → foundAt text v ≡ f
 told text r v f e g = ap (foundAt text) (sym g) ∙ e
 
-pub single-missing : (l : List ℕ) → nothing ≡ numberIn l → singles.Missing ≡ singleIn l
+pub single-missing : (l : List ℕ) → nothing ≡ spacedIn l → singles.Missing ≡ singleIn l
 unfolding singleOf
 single-missing l e = ap singleOf e
 
-module _ (l text : List ℕ) (n end : ℕ) (e : found n (drop end text) ≡ numberIn l) where
+module _ (l text : List ℕ) (n end : ℕ) (e : found n (drop end text) ≡ spacedIn l) where
   pub single-followed : end < length text → singles.Missing ≡ singleIn l
   unfolding singleOf
   single-followed h = ap (λ (rest : List ℕ). singleOf (found n rest)) (sym (drop-cons text end 0 h)) ∙ ap singleOf e
@@ -167,7 +115,7 @@ module _ (text : List ℕ) where
   spelt-step h = rw h
 
   module _ (no-step : beginsWith stepWord text ≡ false) where
-    pub spelt-admit : beginsWith admitWord text ≡ true → delayOf (numberIn (drop 5 text)) ≡ spelt text
+    pub spelt-admit : beginsWith admitWord text ≡ true → delayOf (spacedIn (drop 5 text)) ≡ spelt text
     unfolding spelt
     spelt-admit h = rw (no-step, h)
 

@@ -1,59 +1,37 @@
 -- The functions that the contracts cite. Promises says what they have to do with the words of Says.
---     isDigit b              whether a byte is a digit
---     longer v b             the number v with one digit more
---     Found                  a number that was looked for: its value, and the text behind it, or nothing
---     digitsFrom v text      the number whose digits go on there, after those that stand for v
---     numberIn text          the number that a space and digits say at the front of a text
+--     spacedIn text          the number that a space and digits say at the front of a text
 --     singleOf, singleIn     that number, if nothing follows it
 --     freshOf, withdrawOf, stepOf, delayOf, periodOf, durationOf   the call with these numbers
 --     beginsWith word text   whether a text begins with a word
 --     spelt text             what a text says
 --     textLength line        the bytes of a line without the CR at its end
 --     callIn line            what `read` answers
-use Prim.Native.Nat.{ℕ, _+_, _*_, _-_, _^_}
+use Prim.Native.Nat.{ℕ, _-_}
 use mathlib.Core.Bool.{Bool, true, false, cond}
 use mathlib.Core.List.{List, [], _∷_}
-use lib.Dec.{ltb, leb, eqb}
+use lib.Dec.{ltb, eqb}
 use lib.ListN.{length, getD, take, drop}
+use Rattle.decimal.specs.Answer.{Found, nothing, found, numberIn}
 use Rattle.script.specs.declared.Call.{Call}
 use Rattle.script.specs.declared.Call.the-variants.{Bad, Fresh, Admit, Withdraw, Step}
 use Rattle.script.specs.declared.Single.{Single}
 use Rattle.script.specs.declared.Single.the-variants as singles
 use Rattle.script.specs.Says.{space, return, freshWord, admitWord, withdrawWord, stepWord, longest}
 
--- Whether a byte is a digit.
-unfoldable pub isDigit : ℕ → Bool
-isDigit b = cond (ltb b 48) false (leb b 57)
-
--- A number with one digit more at its end.
-abbrev pub longer : ℕ → ℕ → ℕ
-longer v b = v * 10 + (b - 48)
-
--- A number that was looked for at the front of a text: its value, and what stands behind it.
-pub data Found : Type 0 where
-  nothing : Found
-  found : ℕ → List ℕ → Found
-
--- The digits go on as far as they go; a number of 2^32 or more is none.
-unfoldable pub digitsFrom : ℕ → List ℕ → Found
-digitsFrom v [] = found v []
-digitsFrom v (b ∷ bs) =
-    cond (isDigit b) (cond (ltb (longer v b) (2 ^ 32)) (digitsFrom (longer v b) bs) nothing) (found v (b ∷ bs))
-
--- A space, and at least one digit.
-unfoldable pub numberIn : List ℕ → Found
-numberIn [] = nothing
-numberIn (b ∷ bs) = cond (eqb b space) (cond (isDigit (getD bs 0 0)) (digitsFrom 0 bs) nothing) nothing
+-- A space, and a number.
+unfoldable pub spacedIn : List ℕ → Found ℕ
+spacedIn [] = nothing
+spacedIn (b ∷ bs) = cond (eqb b space) (numberIn bs) nothing
 
 -- A number that nothing follows.
-unfoldable pub singleOf : Found → Single
+unfoldable pub singleOf : Found ℕ → Single
 singleOf nothing = singles.Missing
 singleOf (found n []) = singles.Found n
 singleOf (found n (b ∷ bs)) = singles.Missing
 
 -- The only number of a text.
 abbrev pub singleIn : List ℕ → Single
-singleIn text = singleOf (numberIn text)
+singleIn text = singleOf (spacedIn text)
 
 -- The call `fresh` with its number.
 abbrev pub freshOf : Single → Call
@@ -76,14 +54,14 @@ durationOf delay period singles.Missing = Bad
 durationOf delay period (singles.Found duration) = Admit delay period duration
 
 -- The call `admit` with its second number, and what follows it.
-abbrev pub periodOf : (delay : ℕ) → Found → Call
+abbrev pub periodOf : (delay : ℕ) → Found ℕ → Call
 periodOf delay nothing = Bad
 periodOf delay (found period rest) = durationOf delay period (singleIn rest)
 
 -- The call `admit` with its first number, and what follows it.
-abbrev pub delayOf : Found → Call
+abbrev pub delayOf : Found ℕ → Call
 delayOf nothing = Bad
-delayOf (found delay rest) = periodOf delay (numberIn rest)
+delayOf (found delay rest) = periodOf delay (spacedIn rest)
 
 -- Whether a text begins with a word.
 unfoldable pub beginsWith : (word text : List ℕ) → Bool
@@ -95,7 +73,7 @@ beginsWith (w ∷ ws) (t ∷ ts) = cond (eqb t w) (beginsWith ws ts) false
 unfoldable pub spelt : List ℕ → Call
 spelt text =
     cond (beginsWith stepWord text) (stepOf (singleIn (drop 4 text)))
-    (cond (beginsWith admitWord text) (delayOf (numberIn (drop 5 text)))
+    (cond (beginsWith admitWord text) (delayOf (spacedIn (drop 5 text)))
     (cond (beginsWith withdrawWord text) (withdrawOf (singleIn (drop 8 text)))
     (cond (beginsWith freshWord text) (freshOf (singleIn (drop 5 text)))
     Bad)))

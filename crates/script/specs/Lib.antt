@@ -2,4 +2,3 @@
 pub mod Says
 pub mod Answer
 pub mod Promises
-pub mod Inside

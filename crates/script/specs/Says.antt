@@ -1,46 +1,17 @@
 -- When a line says a call, with no algorithm. A byte is a number, and a text is a list of bytes (ASCII).
---     Digit d                   the byte is one of the digits 0 to 9
---     Digits ds                 every byte of a text is a digit
---     valueFrom v ds, value ds  the number that digits stand for, after those that stand for v, and from the first on
---     Number n ds               the text is one or more digits that stand for n, a number of 32 bits
+-- What a number is, one or more digits of a value below 2^32, decimal says: `Number` of its Digits.
 --     space, return             the bytes 32 and 13
 --     freshWord, admitWord, withdrawWord, stepWord   the four words
 --     Spells text call          the text is the word of a call and its numbers, after a single space each
 --     longest                   80, the bytes of the longest text that says a call
 --     Ending bytes              what may stand between the text and the newline: nothing, or one CR
 --     Says line call            the line, without its newline, says the call
-use Prim.Native.Nat.{ℕ, _+_, _*_, _-_, _^_, _<_, _≤_}
-use mathlib.Core.Path.{_≡_}
+use Prim.Native.Nat.{ℕ, _≤_}
 use mathlib.Core.List.{List, [], _∷_, _++_}
 use lib.ListN.{length}
+use Rattle.decimal.specs.Digits.{Number}
 use Rattle.script.specs.declared.Call.{Call}
 use Rattle.script.specs.declared.Call.the-variants.{Fresh, Admit, Withdraw, Step}
-
--- The digits 0 to 9 are the bytes 48 to 57.
-pub record Digit (d : ℕ) : Type 0 where
-  pub from : 48 ≤ d
-  pub to : d ≤ 57
-
--- Every byte of a text is a digit.
-pub data Digits : List ℕ → Type 0 where
-  none : Digits []
-  more : {d : ℕ} {ds : List ℕ} → Digit d → Digits ds → Digits (d ∷ ds)
-
--- With each further digit, what stands before it counts ten times as much.
-unfoldable pub valueFrom : ℕ → List ℕ → ℕ
-valueFrom v [] = v
-valueFrom v (d ∷ ds) = valueFrom (v * 10 + (d - 48)) ds
-
--- The number that digits stand for.
-abbrev pub value : List ℕ → ℕ
-value ds = valueFrom 0 ds
-
--- A number: one or more digits, of whatever value below 2^32. Zeros may lead.
-pub record Number (n : ℕ) (ds : List ℕ) : Type 0 where
-  pub digits : Digits ds
-  pub some : 0 < length ds
-  pub stands-for : value ds ≡ n
-  pub small : n < 2 ^ 32
 
 -- The byte of a space.
 abbrev pub space : ℕ

@@ -1,13 +1,13 @@
 // Reads a line that says a call of a dispatcher: `fresh C`, `admit DELAY PERIOD DURATION`, `withdraw PLACE` or `step C`.
 // `read` has no `requires`: of a line that says no call it answers `Bad`.
 ghost use mathlib.Core.Path.{_≡_};
-ghost use Prim.Native.Nat.{_≤_, _<_, _^_};
+ghost use Prim.Native.Nat.{_≤_};
 ghost use lib.ListN.{length, drop};
+ghost use Rattle.decimal.specs.Inside.{foundAt};
 ghost use Rattle.script.specs.Says.{longest};
-ghost use Rattle.script.specs.Answer.{isDigit, digitsFrom, numberIn, singleIn, freshOf, delayOf, withdrawOf, stepOf};
+ghost use Rattle.script.specs.Answer.{spacedIn, singleIn, freshOf, delayOf, withdrawOf, stepOf};
 ghost use Rattle.script.specs.Answer.{beginsWith, spelt, textLength, callIn};
-ghost use Rattle.script.specs.Answer.{longer as Answer·longer};
-ghost use Rattle.script.specs.Inside.{foundAt};
+use decimal::Number;
 
 // What a line says.
 pub enum Call {
@@ -24,64 +24,15 @@ impl Call {
     pub const LONGEST: usize = 80;
 }
 
-// No number is so great: 2^32.
-const LIMIT: u64 = 4_294_967_296;
-
-// A number that was looked for.
-enum Number {
-    // It is not there.
-    Missing,
-    // Its value, and the index behind its last digit.
-    Found(u32, usize),
-}
-
 // One number and nothing behind it.
 enum Single {
     Missing,
     Found(u32),
 }
 
-// Whether a byte is one of the digits 0 to 9.
-fn is_digit(byte: u8) -> bool
-    ensures { λ r. ⌜ r ≡ isDigit byte ⌝ }
-{
-    if byte < b'0' {
-        return false;
-    }
-    byte <= b'9'
-}
-
-// The number before, with one more digit at its end.
-fn longer(value: u64, digit: u8) -> u64
-    requires { ⌜ (value < 2 ^ 32) × (48 ≤ digit) ⌝ }
-    ensures { λ r. ⌜ r ≡ Answer·longer value digit ⌝ }
-{
-    value * 10 + (digit - b'0') as u64
-}
-
-// The number whose digits begin there, if it is below 2^32. No digit counts as 0, so the caller looks at the first.
-fn digits(text: &[u8], at: usize) -> Number
-    ensures { λ r. ⌜ foundAt (now (text .entry)) r ≡ digitsFrom 0 (drop at (now (text .entry))) ⌝ }
-{
-    let mut value = 0;
-    let mut next = at;
-    while next < text.len() {
-        let byte = text[next];
-        if !is_digit(byte) {
-            return Number::Found(value as u32, next);
-        }
-        value = longer(value, byte);
-        if value >= LIMIT {
-            return Number::Missing;
-        }
-        next += 1;
-    }
-    Number::Found(value as u32, next)
-}
-
 // The number that a space and its digits say there.
-fn number_at(text: &[u8], at: usize) -> Number
-    ensures { λ r. ⌜ foundAt (now (text .entry)) r ≡ numberIn (drop at (now (text .entry))) ⌝ }
+fn spaced_at(text: &[u8], at: usize) -> Number
+    ensures { λ r. ⌜ foundAt (now (text .entry)) r ≡ spacedIn (drop at (now (text .entry))) ⌝ }
 {
     if at >= text.len() {
         return Number::Missing;
@@ -89,21 +40,14 @@ fn number_at(text: &[u8], at: usize) -> Number
     if text[at] != b' ' {
         return Number::Missing;
     }
-    let first = at + 1;
-    if first >= text.len() {
-        return Number::Missing;
-    }
-    if !is_digit(text[first]) {
-        return Number::Missing;
-    }
-    digits(text, first)
+    decimal::read(text, at + 1)
 }
 
 // The number that is said there, if nothing follows it.
 fn single_at(text: &[u8], at: usize) -> Single
     ensures { λ r. ⌜ r ≡ singleIn (drop at (now (text .entry))) ⌝ }
 {
-    let Number::Found(value, end) = number_at(text, at) else {
+    let Number::Found(value, end) = spaced_at(text, at) else {
         return Single::Missing;
     };
     if end < text.len() {
@@ -124,12 +68,12 @@ fn fresh(number: Single) -> Call
 
 // The call `admit` with the three numbers behind its word.
 fn admit(text: &[u8]) -> Call
-    ensures { λ r. ⌜ r ≡ delayOf (numberIn (drop 5 (now (text .entry)))) ⌝ }
+    ensures { λ r. ⌜ r ≡ delayOf (spacedIn (drop 5 (now (text .entry)))) ⌝ }
 {
-    let Number::Found(delay, second) = number_at(text, 5) else {
+    let Number::Found(delay, second) = spaced_at(text, 5) else {
         return Call::Bad;
     };
-    let Number::Found(period, third) = number_at(text, second) else {
+    let Number::Found(period, third) = spaced_at(text, second) else {
         return Call::Bad;
     };
     let Single::Found(duration) = single_at(text, third) else {

@@ -7,8 +7,8 @@ use borrow.Author.Needs.{needs}
 use Rattle.script.proofs.admit.Statement.{statement}
 use Rattle.script.proofs.admit.Tie as tie
 
-number-at-requires : tie.Need-number-at-requires
-number-at-requires c κs = search needs
+spaced-at-requires : tie.Need-spaced-at-requires
+spaced-at-requires c κs = search needs
 
 enum-known-delay : tie.Need-enum-known-delay
 enum-known-delay c = search needs
@@ -17,10 +17,10 @@ enum-told : tie.Need-enum-told
 enum-told c = search needs
 
 returns : tie.Need-returns
-returns c = ap delayOf (told _ _ _ _ (c .before .before .number-at .ensures) (c .enum-told .given .1))
+returns c = ap delayOf (told _ _ _ _ (c .before .before .spaced-at .ensures) (c .enum-told .given .1))
 
-number-at-requires-2 : tie.Need-number-at-requires-2
-number-at-requires-2 c κs = search needs
+spaced-at-requires-2 : tie.Need-spaced-at-requires-2
+spaced-at-requires-2 c κs = search needs
 
 enum-known-period : tie.Need-enum-known-period
 enum-known-period c = search needs
@@ -31,8 +31,8 @@ enum-told-2 c = search needs
 returns-2 : tie.Need-returns-2
 returns-2 c = let second = c .before .before in
     let first = second .before .before in
-    ap (periodOf _) (told _ _ _ _ (second .number-at2 .ensures) (c .enum-told2 .given .1))
-    ∙ ap delayOf (told _ _ _ _ (first .before .before .number-at .ensures) (first .delay .given .1))
+    ap (periodOf _) (told _ _ _ _ (second .spaced-at2 .ensures) (c .enum-told2 .given .1))
+    ∙ ap delayOf (told _ _ _ _ (first .before .before .spaced-at .ensures) (first .delay .given .1))
 
 single-at-requires : tie.Need-single-at-requires
 single-at-requires c κs = search needs
@@ -48,8 +48,8 @@ returns-3 c = let third = c .before .before in
     let second = third .before .before in
     let first = second .before .before .before .before in
     ap (durationOf _ _) (sym (c .enum-told3 .given .1) ∙ third .single-at .ensures)
-    ∙ ap (periodOf _) (told _ _ _ _ (second .before .before .number-at2 .ensures) (second .period .given .1))
-    ∙ ap delayOf (told _ _ _ _ (first .before .before .number-at .ensures) (first .delay .given .1))
+    ∙ ap (periodOf _) (told _ _ _ _ (second .before .before .spaced-at2 .ensures) (second .period .given .1))
+    ∙ ap delayOf (told _ _ _ _ (first .before .before .spaced-at .ensures) (first .delay .given .1))
 
 returns-4 : tie.Need-returns-4
 returns-4 c = let known = c .before in
@@ -57,18 +57,18 @@ returns-4 c = let known = c .before in
     let second = third .before .before in
     let first = second .before .before .before .before in
     ap (durationOf _ _) (sym (known .duration .given .1) ∙ third .single-at .ensures)
-    ∙ ap (periodOf _) (told _ _ _ _ (second .before .before .number-at2 .ensures) (second .period .given .1))
-    ∙ ap delayOf (told _ _ _ _ (first .before .before .number-at .ensures) (first .delay .given .1))
+    ∙ ap (periodOf _) (told _ _ _ _ (second .before .before .spaced-at2 .ensures) (second .period .given .1))
+    ∙ ap delayOf (told _ _ _ _ (first .before .before .spaced-at .ensures) (first .delay .given .1))
 
 pub admit-spec : {M : Type 1} → statement M
 admit-spec =
     tie.close
     (tie.spec
-    number-at-requires
+    spaced-at-requires
     enum-known-delay
     enum-told
     returns
-    number-at-requires-2
+    spaced-at-requires-2
     enum-known-period
     enum-told-2
     returns-2
