@@ -14,9 +14,9 @@ use Rattle.train.specs.Claims.{Limits, maxTicks}
 use Rattle.train.specs.Answer.{reach}
 use Rattle.judge.specs.declared.Verdict.{Verdict}
 use Rattle.judge.specs.Paper.{Shown, accept, collide, refuse}
+use Rattle.decimal.proofs.Notation.{decimal-length}
 use Rattle.line.specs.declared.Written.the-variants as writes
 use Rattle.line.specs.Answer.{acceptWord, refuseWord, line, lineOf, written}
-use Rattle.line.proofs.Notation.{decimal-length}
 use Rattle.line.proofs.Lines.{two-length, collide-length, answer-room}
 use Rattle.bench.specs.Answer.{longestLine}
 

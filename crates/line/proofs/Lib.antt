@@ -1,5 +1,4 @@
 -- The laws of line. Promises gathers what specs/Promises.antt states; callers cite the others.
-pub mod Notation
 pub mod Stores
 pub mod Lines
 pub mod Reading

@@ -1,7 +1,7 @@
 -- The lines as lists: how long they are, and what it is to have written one.
 -- Core: two-length and collide-length. The rest follows the text of the definitions.
 -- Assumes nothing.
-use Prim.Native.Nat.{ℕ, _+_, _<_, _≤_, _^_}
+use Prim.Native.Nat.{ℕ, _+_, _<_, _≤_}
 use mathlib.Core.Path.{_≡_, refl, sym, ap, subst, _∙_}
 use mathlib.Core.Bool.{Bool, true, false, not, cond}
 use mathlib.Core.Logic.{_↔_}
@@ -14,6 +14,8 @@ use borrow.Author.Tests.{ltb-true, lt-ltb, le-ltb, leb-true, leb-false, not-true
 use Rattle.refusal.specs.declared.Refusal.{Refusal}
 use Rattle.refusal.specs.declared.Refusal.the-variants.{BufferTooShort}
 use Rattle.refusal.specs.Paper as refusals
+use Rattle.decimal.specs.Answer.{decimal}
+use Rattle.decimal.proofs.Notation.{decimal-u64, decimal-u32}
 use Rattle.judge.specs.declared.Figures.{Figures}
 use Rattle.judge.specs.declared.Meeting.{Meeting}
 use Rattle.judge.specs.declared.Verdict.{Verdict}
@@ -22,10 +24,9 @@ use Rattle.judge.specs.Paper.{Shown, accept, collide, refuse, paper}
 use Rattle.line.specs.declared.Written.{Written}
 use Rattle.line.specs.declared.Written.the-variants.{Length, Refused}
 use Rattle.line.specs.Text.{Within}
-use Rattle.line.specs.Answer.{decimal, numbers, textOf, acceptWord, collideWord, refuseWord, line, lineOf, longest, answerFor, bufferAfter, paperWritten, written, writtenIn}
+use Rattle.line.specs.Answer.{numbers, textOf, acceptWord, collideWord, refuseWord, line, lineOf, longest, answerFor, bufferAfter, paperWritten, written, writtenIn}
 use Rattle.lent.specs.Lent.{over}
 use Rattle.lent.proofs.Over.{over-then}
-use Rattle.line.proofs.Notation.{decimal-u64, decimal-u32}
 
 -- ---- How long
 

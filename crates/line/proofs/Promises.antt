@@ -1,9 +1,9 @@
 -- The proof of what specs/Promises.antt states.
 -- Assumes nothing.
 use mathlib.Core.Path.{refl}
-use Rattle.line.specs.Answer.{leadingWithin, decimal, numbers, line}
+use Rattle.decimal.specs.Answer.{leadingWithin, decimal}
+use Rattle.line.specs.Answer.{numbers, line}
 use Rattle.line.specs.Promises.{Promises}
-use Rattle.line.proofs.Notation as notation
 use Rattle.line.proofs.Lines as lines
 use Rattle.line.proofs.Reading as reading
 
@@ -11,8 +11,6 @@ pub promises : Promises
 unfolding leadingWithin decimal numbers line
 promises =
     record {
-      decimal-is = notation.decimal-is;
-      decimal-only = notation.decimal-only;
       line-tells = reading.line-tells;
       line-fits = lines.line-fits;
       line-reaches = refl;

@@ -1,28 +1,25 @@
 -- A line can be read back: its word by the first byte, and its numbers by where their digits end.
 -- Core: digits-end, that digits are told from what follows them. The rest follows from it.
 -- Assumes nothing.
-use Prim.Native.Nat.{ℕ, _<_}
-use mathlib.Core.Path.{_≡_, refl, sym, ap, _∙_}
+use Prim.Native.Nat.{ℕ}
+use mathlib.Core.Path.{_≡_, refl, sym, ap, subst, _∙_}
 use mathlib.Core.List.{List, [], _∷_, _++_}
 use native.Mathlib.Omega.{arith}
 use lib.ListN.{getD, drop}
+use Rattle.decimal.specs.Digits.{Digit, Digits, more, value, Stops}
+use Rattle.decimal.specs.Answer.{decimal}
+use Rattle.decimal.proofs.Notation.{decimal-is, decimal-value}
 use Rattle.judge.specs.Paper.{Shown, accept, collide, refuse}
-use Rattle.line.specs.Text.{Digits, more, value}
-use Rattle.line.specs.Answer.{decimal, numbers, line}
-use Rattle.line.proofs.Notation.{decimal-is, decimal-value}
-
--- a text that does not go on with a digit
-abbrev Stops : List ℕ → Type 0
-Stops l = getD l 0 48 < 48
+use Rattle.line.specs.Answer.{numbers, line}
 
 abbrev head : List ℕ → ℕ
-head l = getD l 0 48
+head l = getD l 0 0
 
 digits-end :
     (a b r s : List ℕ) → Digits a → Digits b → Stops r → Stops s → a ++ r ≡ b ++ s → (a ≡ b) × (r ≡ s)
 digits-end [] [] r s fs gs p q e = (refl, e)
-digits-end [] (d ∷ b) r s fs (more g gs) p q e = absurd (omega (arith, ap head e, g .from))
-digits-end (d ∷ a) [] r s (more g gs) fs p q e = absurd (omega (arith, ap head e, g .from))
+digits-end [] (d ∷ b) r s fs (more g gs) p q e = absurd (p (subst Digit (sym (ap head e)) g))
+digits-end (d ∷ a) [] r s (more g gs) fs p q e = absurd (q (subst Digit (ap head e) g))
 digits-end (c ∷ a) (d ∷ b) r s (more f fs) (more g gs) p q e =
     let t = digits-end a b r s fs gs p q (ap (drop 1) e) in
     let h : c ≡ d = ap head e in
@@ -31,8 +28,8 @@ digits-end (c ∷ a) (d ∷ b) r s (more f fs) (more g gs) p q e =
 
 numbers-stop : (ns : List ℕ) → Stops (numbers ns)
 unfolding numbers
-numbers-stop [] = omega arith
-numbers-stop (n ∷ ns) = omega arith
+numbers-stop [] d = omega (arith, d .from)
+numbers-stop (n ∷ ns) d = omega (arith, d .from)
 
 pub numbers-tell : (ns ms : List ℕ) → numbers ns ≡ numbers ms → ns ≡ ms
 unfolding numbers

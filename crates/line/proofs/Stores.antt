@@ -1,8 +1,7 @@
 -- What the stores of the private functions write, on plain values.
--- Core: put-one and put-more, the two ways through a number's digits, and numbers-next, for the numbers of a line.
--- The rest puts writes together.
+-- Core: numbers-next, for the numbers of a line. The rest puts writes together.
 -- Assumes nothing.
-use Prim.Native.Nat.{ℕ, _+_, _-_, _/_, _%_, _<_, _≤_}
+use Prim.Native.Nat.{ℕ, _+_, _-_, _<_, _≤_}
 use mathlib.Core.Path.{_≡_, refl, sym, ap, _∙_}
 use mathlib.Core.Bool.{false}
 use mathlib.Core.Logic.{⊎-elim}
@@ -11,34 +10,14 @@ use native.Mathlib.Nat.{eq-zero-or-pos}
 use native.Mathlib.Numerals.{add-one}
 use native.Mathlib.Omega.{arith}
 use lib.Dec.{leb}
-use lib.ListN.{length, take, drop, getD, set, length-append}
+use lib.ListN.{length, take, drop, getD, set, length-append, length-set}
 use lib.Seq.{take-suc, take-length, length-take-le, drop-cons, drop-length}
 use borrow.Author.Tests.{le-leb, lt-leb}
-use Rattle.line.specs.Answer.{digit, decimal, space, newline, spaced, numbers}
-use Rattle.lent.specs.Lent.{over}
-use Rattle.lent.proofs.Over.{over-one, over-more, over-then}
-use Rattle.line.proofs.Notation.{decimal-one, decimal-more, length-one, length-more}
-
--- a number of one digit
-pub put-one :
-    (l : List ℕ) (at n : ℕ) → n < 10 → at + length (decimal n) ≤ length l →
-    set l at (digit n) ≡ over l at (decimal n)
-put-one l at n h k =
-    over-one l at (digit n) (omega (arith, length-one n h)) ∙ ap (over l at) (sym (decimal-one n h))
-
--- where a number has room, so have its digits but the last
-pub room-before :
-    (room at n : ℕ) → 10 ≤ n → at + length (decimal n) ≤ room → at + length (decimal (n / 10)) ≤ room
-room-before room at n h k = omega (arith, length-more n h)
-
--- the last digit of a number, after those before it
-pub put-more :
-    (l m : List ℕ) (at last n : ℕ) → 10 ≤ n → at + length (decimal n) ≤ length l →
-    last ≡ at + length (decimal (n / 10)) → m ≡ over l at (decimal (n / 10)) →
-    set m last (digit (n % 10)) ≡ over l at (decimal n)
-put-more l m at last n h k e w =
-    over-more l m (decimal (n / 10)) at last (digit (n % 10)) (omega (arith, length-more n h)) (sym e) w
-    ∙ ap (over l at) (sym (decimal-more n h))
+use Rattle.lent.specs.Lent.{over, fitted}
+use Rattle.lent.proofs.Over.{over-one, over-more, over-then, fitted-room}
+use Rattle.decimal.specs.Answer.{decimal, endIn}
+use Rattle.decimal.proofs.Stores.{end-room}
+use Rattle.line.specs.Answer.{space, newline, spaced, numbers}
 
 -- ---- A word
 
@@ -60,12 +39,17 @@ word-ends l m word at i h k w =
 
 -- ---- Numbers
 
--- a space, and the number after it
+-- a space, and the number after it, which has room
 pub put-spaced :
-    (l m : List ℕ) (at n : ℕ) → at + length (spaced n) ≤ length l →
-    m ≡ over (set l at space) (at + 1) (decimal n) → m ≡ over l at (spaced n)
-put-spaced l m at n h w =
-    w ∙ over-then l (set l at space) (space ∷ []) (decimal n) at (at + 1) (omega arith) refl (over-one l at space (omega arith))
+    (l m : List ℕ) (at end n : ℕ) → at + length (spaced n) ≤ length l →
+    end ≡ endIn (length (set l at space)) (at + 1) (decimal n) → m ≡ fitted (set l at space) (at + 1) (decimal n) →
+    (end ≡ at + length (spaced n)) × (m ≡ over l at (spaced n))
+put-spaced l m at end n h e w =
+    let room : at + 1 + length (decimal n) ≤ length (set l at space) = simp length-set (omega arith) in (
+      e ∙ end-room (length (set l at space)) (at + 1) (decimal n) room ∙ omega arith,
+      w ∙ fitted-room (set l at space) (at + 1) (decimal n) room
+          ∙ over-then l (set l at space) (space ∷ []) (decimal n) at (at + 1) (omega arith) refl (over-one l at space (omega arith)),
+    )
 
 -- the numbers that are left are the next one and those behind it
 numbers-next :
@@ -100,15 +84,15 @@ pub counting-begins : (ns : List ℕ) (room : ℕ) → Counting ns room room 0
 counting-begins ns room = record { so-far = omega arith; taken = refl }
 
 pub counting-on :
-    (ns : List ℕ) (room left i width : ℕ) → i < length ns → width ≡ length (spaced (getD ns i 0)) → width ≤ left →
-    Counting ns room left i → Counting ns room (left - width) (i + 1)
-counting-on ns room left i width h e k c =
+    (ns : List ℕ) (room left i digits : ℕ) → i < length ns → digits ≡ length (decimal (getD ns i 0)) → digits + 1 ≤ left →
+    Counting ns room left i → Counting ns room (left - (digits + 1)) (i + 1)
+counting-on ns room left i digits h e k c =
     record { so-far = omega arith; taken = omega (arith, c .taken, length-next ns i h) }
 
 pub counting-short :
-    (ns : List ℕ) (room left i width : ℕ) → i < length ns → width ≡ length (spaced (getD ns i 0)) → left < width →
+    (ns : List ℕ) (room left i digits : ℕ) → i < length ns → digits ≡ length (decimal (getD ns i 0)) → left < digits + 1 →
     Counting ns room left i → false ≡ leb (length (numbers ns)) room
-counting-short ns room left i width h e k c =
+counting-short ns room left i digits h e k c =
     sym (lt-leb (length (numbers ns)) room (omega (arith, c .taken, length-next ns i h)))
 
 -- the newline has room just where the whole has

@@ -1,7 +1,5 @@
--- The functions that the contracts cite. Promises says what they have to do with the words of Text.
---     digit n                  the byte of a digit
---     leadingWithin most n     the digits of n, and none for 0, in at most that many digits
---     decimal n                the decimal notation of n
+-- The functions that the contracts cite. Promises says what they have to do with the words of Text. A byte is a number, and a
+-- text is a list of bytes (ASCII); `decimal n`, the notation of a number, is decimal's.
 --     space, newline           the bytes 32 and 10
 --     spaced n                 a number as it stands in a line, after a space
 --     numbers ns               the numbers of a line one after another, and then the newline
@@ -15,32 +13,19 @@
 --     paperWritten answer      what the paper has of an answer: where the line ends, or the refusal
 --     written verdict room     what `write` answers
 --     writtenIn answer verdict before   what it leaves in the buffer
-use Prim.Native.Nat.{ℕ, zero, suc, _+_, _/_, _%_}
+use Prim.Native.Nat.{ℕ, _+_}
 use mathlib.Core.Bool.{cond}
 use mathlib.Core.List.{List, [], _∷_, _++_}
 use lib.Dec.{ltb}
 use lib.ListN.{length}
 use Rattle.lent.specs.Lent.{over}
+use Rattle.decimal.specs.Answer.{decimal}
 use Rattle.refusal.specs.declared.Refusal.the-variants.{BufferTooShort}
 use Rattle.refusal.specs.Paper.{Said, answers, refusing}
 use Rattle.judge.specs.declared.Verdict.{Verdict}
 use Rattle.judge.specs.Paper.{Shown, accept, collide, refuse, paper}
 use Rattle.line.specs.declared.Written.{Written}
 use Rattle.line.specs.declared.Written.the-variants.{Length, Refused}
-
--- The byte of a digit.
-abbrev pub digit : ℕ → ℕ
-digit n = 48 + n
-
--- The digits of a number, the last by its remainder; 0 has none. With an end in sight, so that it can be computed.
-unfoldable pub leadingWithin : (most n : ℕ) → List ℕ
-leadingWithin zero n = []
-leadingWithin (suc most) zero = []
-leadingWithin (suc most) (suc n) = leadingWithin most (suc n / 10) ++ (digit (suc n % 10) ∷ [])
-
--- The last digit always stands, so that 0 is printed `0`. There are no more digits before it than n counts.
-unfoldable pub decimal : ℕ → List ℕ
-decimal n = leadingWithin n (n / 10) ++ (digit (n % 10) ∷ [])
 
 -- The byte of a space.
 abbrev pub space : ℕ
@@ -50,7 +35,7 @@ space = 32
 abbrev pub newline : ℕ
 newline = 10
 
--- A number of a line stands after a space.
+-- A number of a line stands after a space, in decimal notation.
 abbrev pub spaced : ℕ → List ℕ
 spaced n = space ∷ decimal n
 

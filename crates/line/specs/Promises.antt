@@ -7,13 +7,10 @@ use lib.ListN.{length}
 use Rattle.refusal.specs.Paper as said
 use Rattle.judge.specs.declared.Verdict.{Verdict}
 use Rattle.judge.specs.Paper.{Shown, accept, collide, refuse}
-use Rattle.line.specs.Text.{IsDecimal, Within}
-use Rattle.line.specs.Answer.{decimal, line, lineOf, longest, answerFor, paperWritten, written}
+use Rattle.line.specs.Text.{Within}
+use Rattle.line.specs.Answer.{line, lineOf, longest, answerFor, paperWritten, written}
 
 pub record Promises : Type 0 where
-  -- What is printed for a number is its decimal notation, and there is no other.
-  pub decimal-is : (n : ℕ) → IsDecimal n (decimal n)
-  pub decimal-only : (n : ℕ) (ds : List ℕ) → IsDecimal n ds → ds ≡ decimal n
   -- Nothing is lost in print: two lines of the same bytes have the same word and the same numbers.
   pub line-tells : (s t : Shown) → line s ≡ line t → s ≡ t
   -- No line of numbers within their types is longer than the longest, and one is as long.

@@ -4,7 +4,7 @@ ghost use mathlib.Core.Path.{_≡_};
 ghost use Prim.Native.Nat.{_+_, _≤_};
 ghost use lib.Dec.{leb};
 ghost use lib.ListN.{length};
-ghost use Rattle.line.specs.Answer.{decimal, spaced, numbers, textOf, lineOf, longest, answerFor, bufferAfter, written, writtenIn};
+ghost use Rattle.line.specs.Answer.{spaced, numbers, textOf, lineOf, longest, answerFor, bufferAfter, written, writtenIn};
 ghost use Rattle.lent.specs.Lent.{over};
 use judge::Verdict;
 use refusal::Refusal;
@@ -22,32 +22,6 @@ impl Written {
     pub const LONGEST: usize = 93;
 }
 
-// How many digits n has, so that the room can be tested before the first byte is written.
-fn digits(n: u64) -> usize
-    ensures { λ r. ⌜ (r ≡ length (decimal n)) × (r ≤ 20) ⌝ }
-{
-    if n < 10 {
-        return 1;
-    }
-    digits(n / 10) + 1
-}
-
-// Writes the digits of n at `at`, and answers where they end. It calls itself for all digits but the last, since the
-// last is the one that division finds first.
-fn put_decimal(out: &mut [u8], at: usize, n: u64) -> usize
-    requires { ⌜ at + length (decimal n) ≤ length (now out) ⌝ }
-    ensures end { λ r. ⌜ r ≡ at + length (decimal n) ⌝ }
-    ensures bytes { λ _. ⌜ now (out .exit) ≡ over (now (out .entry)) at (decimal n) ⌝ }
-{
-    if n < 10 {
-        out[at] = b'0' + n as u8;
-        return at + 1;
-    }
-    let last = put_decimal(out, at, n / 10);
-    out[last] = b'0' + (n % 10) as u8;
-    last + 1
-}
-
 // Writes a space and n at `at`, and answers where they end.
 fn put_number(out: &mut [u8], at: usize, n: u64) -> usize
     requires { ⌜ at + length (spaced n) ≤ length (now out) ⌝ }
@@ -55,25 +29,18 @@ fn put_number(out: &mut [u8], at: usize, n: u64) -> usize
     ensures bytes { λ _. ⌜ now (out .exit) ≡ over (now (out .entry)) at (spaced n) ⌝ }
 {
     out[at] = b' ';
-    put_decimal(out, at + 1, n)
+    decimal::put(n, out, at + 1)
 }
 
-// How many bytes a number of a line has, with the space before it.
-fn width(n: u64) -> usize
-    ensures { λ r. ⌜ (r ≡ length (spaced n)) × (r ≤ 21) ⌝ }
-{
-    digits(n) + 1
-}
-
-// Whether the numbers of a line, and its newline, have room in so many bytes. What each takes is subtracted from what is
-// left, since the sum may be too great for its type.
+// Whether the numbers of a line, and its newline, have room in so many bytes. What each takes, with the space before it, is
+// subtracted from what is left, since the sum may be too great for its type.
 fn fit(values: &[u64], room: usize) -> bool
     ensures { λ r. ⌜ r ≡ leb (length (numbers (now (values .entry)))) room ⌝ }
 {
     let mut left = room;
     let mut i = 0;
     while i < values.len() {
-        let taken = width(values[i]);
+        let taken = decimal::width(values[i]) + 1;
         if left < taken {
             return false;
         }

@@ -1,7 +1,8 @@
 -- The proof of what specs/Promises.antt states.
 -- Assumes nothing.
 use mathlib.Core.Path.{refl}
-use Rattle.line.specs.Answer.{leadingWithin, decimal, numbers}
+use Rattle.decimal.specs.Answer.{leadingWithin, decimal}
+use Rattle.line.specs.Answer.{numbers}
 use Rattle.reply.specs.Lines.{lineOf}
 use Rattle.reply.specs.Promises.{Promises}
 use Rattle.reply.proofs.Texts as texts

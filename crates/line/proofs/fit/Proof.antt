@@ -25,6 +25,9 @@ shared-slice-read-width c = search needs
 width-requires : tie.Need-width-requires Inv-loop μ-loop
 width-requires c κs = search needs
 
+add-taken : tie.Need-add-taken Inv-loop μ-loop
+add-taken c = search needs
+
 returns : tie.Need-returns Inv-loop μ-loop
 returns c =
     let counted = c .before in
@@ -56,6 +59,7 @@ fit-spec =
     mul-width
     shared-slice-read-width
     width-requires
+    add-taken
     returns
     add-i
     loop-less
