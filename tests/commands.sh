@@ -83,6 +83,10 @@ prints 'refuse 18 1' 1 quiet ./urzabelki verdict examples/line-ends.csv
 prints '' 1 speaks ./urzabelki export "$listing"
 prints '' 1 speaks ./urzabelki import examples/thirteenths.stt
 prints '' 1 speaks ./urzabelki import </dev/null
+# What README.md shows of a refused listing is what a person sees.
+said ./urzabelki import examples/decimals.csv
+cmp -s "$room/err" <(sed -n '/^    .\/urzabelki import examples\/decimals.csv$/,/^$/p' README.md | sed '1d;/^$/d;s/^    //') ||
+    wrong "README.md does not show what import says of examples/decimals.csv"
 for command in import export; do
     prints '' 2 speaks ./urzabelki "$command" examples
     prints '' 2 speaks ./urzabelki "$command" no-such-file
