@@ -1,16 +1,15 @@
 -- What `import` answers, on plain values: the loop that reads all records, the checks of the trains, and one law for each return.
 -- Core: tallied-more, trains-table. The rest follows from these and from the laws of listing.
 -- Assumes nothing.
-use Prim.Native.Nat.{ℕ, zero, suc, _+_, _*_, _%_, _<_, _≤_}
-use mathlib.Core.Path.{_≡_, refl, sym, ap, subst, _∙_}
-use mathlib.Core.Bool.{Bool, true, false, cond, not}
+use Prim.Native.Nat.{ℕ, suc, _+_, _*_, _%_, _<_, _≤_}
+use mathlib.Core.Path.{_≡_, refl, sym, ap, _∙_}
+use mathlib.Core.Bool.{Bool, true, false}
 use mathlib.Core.List.{List, [], _∷_, _++_, map}
 use native.Mathlib.Nat.{add-zero}
 use native.Mathlib.Numerals.{add-one}
 use native.Mathlib.Omega.{arith}
-use lib.Dec.{ltb, eqb}
+use lib.Dec.{ltb}
 use lib.ListN.{length, drop, drop-of-length-le, length-drop, length-map}
-use lib.Seq.{drop-cons}
 use borrow.Author.Tests.{lt-ltb, le-ltb, ltb-true, ltb-false}
 use Rattle.refusal.specs.declared.Refusal.{Refusal}
 use Rattle.refusal.specs.declared.Refusal.the-variants.{TrainCount, TextTooLong, BufferTooShort, BadRecord}
@@ -20,11 +19,10 @@ use Rattle.decimal.specs.Answer.{nothing, found}
 use Rattle.table.specs.declared.Entry.{Entry}
 use Rattle.table.specs.declared.Outcome.{Outcome}
 use Rattle.table.specs.declared.Outcome.the-variants.{Passed, Refused}
-use Rattle.table.specs.Row.{capacity, numbers, longestRow, entries, rowOf, lowestEntry}
+use Rattle.table.specs.Row.{capacity, numbers, rowOf, lowestEntry}
 use Rattle.table.specs.Answer.{test, orElse, firstRefusal, entryCheck, checked}
 use Rattle.table.proofs.Checks.{refused-not-passed, checked-longer, checked-trains}
 use Rattle.table.proofs.Rows.{row-length, row-entries}
-use Rattle.listing.specs.declared.Imported.{Imported}
 use Rattle.listing.specs.declared.Imported.the-variants as imports
 use Rattle.listing.specs.Layout.{longestText}
 use Rattle.listing.specs.Answer.{headingIn, entryIn, Listed, bad, trains, oneMore, entriesFrom, listed, trainsOf}
@@ -63,10 +61,21 @@ tallied-more n o e (trains es) =
     ∙ ap (λ (k : ℕ). scans.Good (n + length (e ∷ es)) (orElse (orElse o (entryCheck n e)) (firstRefusal entryCheck k es))) (add-one n)
     ∙ ap (scans.Good (n + length (e ∷ es))) (or-else o (entryCheck n e) (firstRefusal entryCheck (suc n) es))
 
--- ---- The loop that reads all records
+-- ---- A record in a text, for both loops
 
 pub left-at : (text : List ℕ) (at : ℕ) → at < length text → 0 < length (drop at text)
 left-at text at h = omega (arith, length-drop at text)
+
+module _
+    (text : List ℕ) (at : ℕ) (r : Train) (a : Entry) (next : ℕ) (is : r ≡ records.Good a next)
+    (e : trainOf text r ≡ entryIn (drop at text)) where
+  pub train-there : entryIn (drop at text) ≡ found a (drop next text)
+  train-there = sym (told-train text r _ _ e is)
+
+  pub train-less : length (drop next text) < length (drop at text)
+  train-less = entry-shorter (drop at text) (drop next text) a train-there
+
+-- ---- The loop that reads all records
 
 module _ (text : List ℕ) (first : ℕ) where
   -- The records so far are good, and with what was found of them all that is to be found stands from here on.
@@ -83,25 +92,20 @@ module _ (text : List ℕ) (first : ℕ) where
     scan-bad h e =
         ap (tallied count outcome) (sym (entries-bad (count + 2) (drop at text) (left-at text at h) (sym e))) ∙ so-far .answers
 
-    module _ (r : Train) (a : Entry) (next : ℕ) (is : r ≡ records.Good a next) (e : trainOf text r ≡ entryIn (drop at text)) where
-      entry-found-at : entryIn (drop at text) ≡ found a (drop next text)
-      entry-found-at = sym (told-train text r _ _ e is)
-
-      pub scan-less : length (drop next text) < length (drop at text)
-      scan-less = entry-shorter (drop at text) (drop next text) a entry-found-at
-
-      pub scan-on : (o : Outcome) → o ≡ orElse outcome (entryCheck count a) → Scanning next (count + 1) o
-      scan-on o o-is =
-          let further : count + 1 + 2 ≡ suc (count + 2) = omega arith in
-          record {
-            answers =
-                ap (λ (p : Outcome). tallied (count + 1) p (entriesIn (count + 1 + 2) (drop next text))) o-is
-                ∙ ap (λ (k : ℕ). tallied (count + 1) (orElse outcome (entryCheck count a)) (entriesIn k (drop next text))) further
-                ∙ tallied-more count outcome a (entriesIn (suc (count + 2)) (drop next text))
-                ∙ ap (tallied count outcome) (sym (entries-on (count + 2) (drop at text) (drop next text) a entry-found-at))
-                ∙ so-far .answers;
-            room = omega (arith, scan-less, so-far .room);
-          }
+    pub scan-on :
+        (r : Train) (a : Entry) (next : ℕ) → r ≡ records.Good a next → trainOf text r ≡ entryIn (drop at text) →
+        (o : Outcome) → o ≡ orElse outcome (entryCheck count a) → Scanning next (count + 1) o
+    scan-on r a next is e o o-is =
+        let further : count + 1 + 2 ≡ suc (count + 2) = omega arith in
+        record {
+          answers =
+              ap (λ (p : Outcome). tallied (count + 1) p (entriesIn (count + 1 + 2) (drop next text))) o-is
+              ∙ ap (λ (k : ℕ). tallied (count + 1) (orElse outcome (entryCheck count a)) (entriesIn k (drop next text))) further
+              ∙ tallied-more count outcome a (entriesIn (suc (count + 2)) (drop next text))
+              ∙ ap (tallied count outcome) (sym (entries-on (count + 2) (drop at text) (drop next text) a (train-there text at r a next is e)))
+              ∙ so-far .answers;
+          room = omega (arith, train-less text at r a next is e, so-far .room);
+        }
 
     pub scan-ends : length text ≤ at → scans.Good count outcome ≡ tallied 0 Passed (listedFrom text first)
     unfolding entriesFrom firstRefusal
@@ -186,65 +190,76 @@ bad-answer : (x : Listed) (k room : ℕ) → tallied 0 Passed x ≡ scans.Bad k 
 bad-answer (bad j) k room e = let same : j ≡ k = cc in ap (λ (n : ℕ). imports.Refused (BadRecord n)) (sym same)
 bad-answer (trains es) k room e = absurd (let z : _≡_ {A = ℕ} 0 1 = cc in omega arith)
 
+-- The text is not too long, and its heading ends where the first train begins.
+pub record Begun (text : List ℕ) (first : ℕ) : Type 0 where
+  pub short : length text ≤ longestText
+  pub same : listedFrom text first ≡ listed text
+
+pub begun :
+    (text : List ℕ) → length text ≤ longestText → (h : Behind) → placeOf text h ≡ headingIn text →
+    (first : ℕ) → h ≡ places.At first → Begun text first
+begun text short h h-is first e =
+    record { short = short; same = sym (listed-on text (drop first text) tt (sym (told-place text h _ _ h-is e))) }
+
 module _ (text : List ℕ) (room : ℕ) where
   pub import-long : longestText < length text → imports.Refused TextTooLong ≡ imported text room
   unfolding imported
   import-long h = simp (lt-ltb longestText (length text) h)
 
-  module _ (short : length text ≤ longestText) where
-    import-listed : (x : Listed) → x ≡ listed text → importedOf room x ≡ imported text room
-    unfolding imported
-    import-listed x e = simp (le-ltb longestText (length text) short, e)
+  import-listed : length text ≤ longestText → (x : Listed) → x ≡ listed text → importedOf room x ≡ imported text room
+  unfolding imported
+  import-listed short x e = simp (le-ltb longestText (length text) short, e)
 
-    module _ (h : Behind) (h-is : placeOf text h ≡ headingIn text) where
-      pub import-headless : h ≡ places.Missing → imports.Refused (BadRecord 1) ≡ imported text room
-      import-headless e = import-listed (bad 1) (sym (listed-bad text (sym (told-place text h _ _ h-is e))))
+  pub import-headless :
+      length text ≤ longestText → (h : Behind) → placeOf text h ≡ headingIn text → h ≡ places.Missing →
+      imports.Refused (BadRecord 1) ≡ imported text room
+  import-headless short h h-is e = import-listed short (bad 1) (sym (listed-bad text (sym (told-place text h _ _ h-is e))))
 
-      module _ (first : ℕ) (headed : h ≡ places.At first) where
-        from-first : listedFrom text first ≡ listed text
-        from-first = sym (listed-on text (drop first text) tt (sym (told-place text h _ _ h-is headed)))
+  module _ (first : ℕ) (b : Begun text first) (r : Scanned) (r-is : r ≡ tallied 0 Passed (listedFrom text first)) where
+    pub import-bad : (k : ℕ) → r ≡ scans.Bad k → imports.Refused (BadRecord k) ≡ imported text room
+    import-bad k e =
+        bad-answer (listedFrom text first) k room (sym r-is ∙ e) ∙ import-listed (b .short) (listedFrom text first) (b .same)
 
-        module _ (r : Scanned) (r-is : r ≡ tallied 0 Passed (listedFrom text first)) where
-          pub import-bad : (k : ℕ) → r ≡ scans.Bad k → imports.Refused (BadRecord k) ≡ imported text room
-          import-bad k e = bad-answer (listedFrom text first) k room (sym r-is ∙ e) ∙ import-listed (listedFrom text first) from-first
+    module _ (count : ℕ) (o : Outcome) (e : r ≡ scans.Good count o) (p : Outcome) (p-is : p ≡ trainsCheck count o room) where
+      sure : Known (listedFrom text first) count o
+      sure = known (listedFrom text first) count o (sym r-is ∙ e)
 
-          module _ (count : ℕ) (o : Outcome) (e : r ≡ scans.Good count o) (p : Outcome) (p-is : p ≡ trainsCheck count o room) where
-            sure : Known (listedFrom text first) count o
-            sure = known (listedFrom text first) count o (sym r-is ∙ e)
+      -- the answer, from the outcome of the checks
+      from-checks : (q : Outcome) → p ≡ q → importedAfter q count ≡ imported text room
+      from-checks q h =
+          let es : List Entry = trainsOf (listedFrom text first) in
+          let whole : q ≡ tableCheck es room =
+          sym h
+          ∙ p-is
+          ∙ ap (λ (k : ℕ). trainsCheck k o room) (sure .counted)
+          ∙ ap (λ (u : Outcome). trainsCheck (length es) u room) (sure .refusal)
+          ∙ trains-table es room in
+          ap (λ (u : Outcome). importedAfter u count) whole
+          ∙ ap (importedAfter (tableCheck es room)) (sure .counted)
+          ∙ ap (importedOf room) (sym (sure .good))
+          ∙ import-listed (b .short) (listedFrom text first) (b .same)
 
-            -- the answer, from the outcome of the checks
-            from-checks : importedAfter p count ≡ imported text room
-            from-checks =
-                let es : List Entry = trainsOf (listedFrom text first) in
-                let all : p ≡ tableCheck es room =
-                p-is
-                ∙ ap (λ (k : ℕ). trainsCheck k o room) (sure .counted)
-                ∙ ap (λ (q : Outcome). trainsCheck (length es) q room) (sure .refusal)
-                ∙ trains-table es room in
-                ap (λ (q : Outcome). importedAfter q count) all
-                ∙ ap (importedAfter (tableCheck es room)) (sure .counted)
-                ∙ ap (importedOf room) (sym (sure .good))
-                ∙ import-listed (listedFrom text first) from-first
+      pub import-refused : (refusal : Refusal) → p ≡ Refused refusal → imports.Refused refusal ≡ imported text room
+      import-refused refusal h = from-checks (Refused refusal) h
 
-            pub import-refused : (refusal : Refusal) → p ≡ Refused refusal → imports.Refused refusal ≡ imported text room
-            import-refused refusal h = ap (λ (q : Outcome). importedAfter q count) (sym h) ∙ from-checks
+      module _ (passed : p ≡ Passed) where
+        pub import-answers : imports.Count count ≡ imported text room
+        import-answers = from-checks Passed passed
 
-            pub import-answers : p ≡ Passed → imports.Count count ≡ imported text room
-            import-answers h = ap (λ (q : Outcome). importedAfter q count) (sym h) ∙ from-checks
+        pub import-ready : Ready (listedFrom text first) room
+        import-ready =
+            record { good = sure .good; fits = omega (arith, sure .counted, trains-fit count o room (sym p-is ∙ passed)) }
 
-            pub import-ready : p ≡ Passed → Ready (listedFrom text first) room
-            import-ready h =
-                record { good = sure .good; fits = omega (arith, sure .counted, trains-fit count o room (sym p-is ∙ h)) }
-
-            pub import-writes :
-                (before now : List ℕ) → now ≡ over before 0 (rowOf (map lowestEntry (trainsOf (listedFrom text first)))) →
-                now ≡ importedIn (imports.Count count) text before
-            unfolding importedIn
-            import-writes before now w =
-                let es : List Entry = trainsOf (listedFrom text first) in
-                let long : length (rowOf (map lowestEntry es)) ≡ count * numbers =
-                row-length (map lowestEntry es)
-                ∙ ap (λ (n : ℕ). n * numbers) (length-map es lowestEntry ∙ sym (sure .counted)) in
-                w
-                ∙ over-front before (rowOf (map lowestEntry es)) (count * numbers) long
-                ∙ ap (λ (x : Listed). rowOf (map lowestEntry (trainsOf x)) ++ drop (count * numbers) before) from-first
+        -- the trains are the whole row, at its front
+        pub import-writes :
+            (before now : List ℕ) → now ≡ over before 0 (rowOf (map lowestEntry (trainsOf (listedFrom text first)))) →
+            now ≡ importedIn (imports.Count count) text before
+        unfolding importedIn
+        import-writes before now w =
+            let es : List Entry = trainsOf (listedFrom text first) in
+            let long : length (rowOf (map lowestEntry es)) ≡ count * numbers =
+            row-length (map lowestEntry es)
+            ∙ ap (λ (n : ℕ). n * numbers) (length-map es lowestEntry ∙ sym (sure .counted)) in
+            w
+            ∙ over-front before (rowOf (map lowestEntry es)) (count * numbers) long
+            ∙ ap (λ (x : Listed). rowOf (map lowestEntry (trainsOf x)) ++ drop (count * numbers) before) (b .same)

@@ -11,18 +11,16 @@ use lib.Seq.{drop-drop, getD-drop}
 use Rattle.lent.specs.Lent.{over, fitted}
 use Rattle.lent.proofs.Over.{fitted-room}
 use Rattle.lent.proofs.Records.{Writing, writing-begins, writing-on, writing-ends}
-use Rattle.decimal.specs.Answer.{nothing, found}
+use Rattle.decimal.specs.Answer.{nothing}
 use Rattle.table.specs.declared.Entry.{Entry}
 use Rattle.table.specs.Row.{numbers, noEntry, numbersOf, rowOf, lowestEntry}
 use Rattle.table.proofs.Rows.{lowest-at}
 use Rattle.listing.specs.Answer.{entryIn, Listed, bad, trains, oneMore, entriesFrom, trainsOf}
-use Rattle.listing.proofs.Records.{entry-shorter}
 use Rattle.listing.proofs.Texts.{entriesIn, entries-bad, entries-on, never, trains-are}
 use Rattle.importer.specs.declared.Train.{Train}
 use Rattle.importer.specs.declared.Train.the-variants as records
 use Rattle.importer.specs.Inside.{trainOf, listedFrom, Ready}
-use Rattle.importer.proofs.Ways.{told-train}
-use Rattle.importer.proofs.Answers.{left-at}
+use Rattle.importer.proofs.Answers.{left-at, train-there}
 
 -- ---- Core laws
 
@@ -79,16 +77,10 @@ module _ (text : List ℕ) (es : List Entry) (before now : List ℕ) (at positio
       (sym (entries-bad (so-far .number) (drop at text) (left-at text at h) (sym e)) ∙ so-far .left)
 
   module _ (r : Train) (a : Entry) (next : ℕ) (is : r ≡ records.Good a next) (e : trainOf text r ≡ entryIn (drop at text)) where
-    found-at : entryIn (drop at text) ≡ found a (drop next text)
-    found-at = sym (told-train text r _ _ e is)
-
     split : Split a (entriesIn (suc (so-far .number)) (drop next text)) (drop position es)
     split =
         more-trains a (entriesIn (suc (so-far .number)) (drop next text)) (drop position es)
-        (sym (entries-on (so-far .number) (drop at text) (drop next text) a found-at) ∙ so-far .left)
-
-    pub putting-less : length (drop next text) < length (drop at text)
-    putting-less = entry-shorter (drop at text) (drop next text) a found-at
+        (sym (entries-on (so-far .number) (drop at text) (drop next text) a (train-there text at r a next is e)) ∙ so-far .left)
 
     putting-within : position < length es
     putting-within = one-left es position a (split .others) (split .whole)

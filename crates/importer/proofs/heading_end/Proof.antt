@@ -2,7 +2,7 @@
 -- Assumes nothing.
 use mathlib.Core.Path.{ap, _∙_}
 use Rattle.listing.specs.Grammar.{comma}
-use Rattle.listing.specs.Answer.{passing, ended}
+use Rattle.listing.specs.Answer.{passing}
 use Rattle.importer.proofs.Ways.{told-place, headFirst, headSecond, head-missing, head-ended, heading-is}
 use borrow.Author.Needs.{needs}
 use Rattle.importer.proofs.heading_end.Statement.{statement}

@@ -2,7 +2,7 @@
 -- Assumes nothing.
 use mathlib.Core.Path.{refl}
 use Rattle.listing.specs.Answer.{importedIn}
-use Rattle.importer.proofs.Answers.{import-long, import-headless, import-bad, import-refused, import-answers, import-ready, import-writes}
+use Rattle.importer.proofs.Answers.{import-long, import-headless, begun, import-bad, import-refused, import-answers, import-ready, import-writes}
 use borrow.Author.Needs.{needs}
 use Rattle.importer.proofs.import.Statement.{statement}
 use Rattle.importer.proofs.import.Tie as tie
@@ -46,8 +46,11 @@ returns-3 c = let checked = c .before .before .before in
     let good = checked .before .before in
     let scanned = good .before .before in
     let known = scanned .before .before in
-    let call = known .before .before in
-    (import-refused _ _ (call .before .if1 .left) _ (call .heading-end .ensures) _ (known .first .given .1) _ (scanned .scan .ensures) _ _ (good .scanned2 .given .1) _ (checked .check-trains .ensures) _ (c .before .checked .given .1), (refl, refl))
+    let call = known .before .before in (
+      import-refused _ _ _ (begun _ (call .before .if1 .left) _ (call .heading-end .ensures) _ (known .first .given .1))
+          _ (scanned .scan .ensures) _ _ (good .scanned2 .given .1) _ (checked .check-trains .ensures) _ (c .before .checked .given .1),
+      (refl, refl),
+    )
 
 enum-told-2 : tie.Need-enum-told-2
 enum-told-2 c = search needs
@@ -58,14 +61,18 @@ put-entries-requires c κs = let checked = c .before .before .before in
     let scanned = good .before .before in
     let known = scanned .before .before in
     let call = known .before .before in
-    import-ready _ _ (call .before .if1 .left) _ (call .heading-end .ensures) _ (known .first .given .1) _ (scanned .scan .ensures) _ _ (good .scanned2 .given .1) _ (checked .check-trains .ensures) (c .before .enum-told2 .given .1)
+    import-ready _ _ _ (begun _ (call .before .if1 .left) _ (call .heading-end .ensures) _ (known .first .given .1))
+    _ (scanned .scan .ensures) _ _ (good .scanned2 .given .1) _ (checked .check-trains .ensures) (c .before .enum-told2 .given .1)
 
 returns-4 : tie.Need-returns-4
 unfolding importedIn
 returns-4 c = let scanned = c .before .before .before in
     let known = scanned .before .before in
-    let call = known .before .before in
-    (import-bad _ _ (call .before .if1 .left) _ (call .heading-end .ensures) _ (known .first .given .1) _ (scanned .scan .ensures) _ (c .before .scanned .given .1), (refl, refl))
+    let call = known .before .before in (
+      import-bad _ _ _ (begun _ (call .before .if1 .left) _ (call .heading-end .ensures) _ (known .first .given .1))
+          _ (scanned .scan .ensures) _ (c .before .scanned .given .1),
+      (refl, refl),
+    )
 
 same-length : tie.Need-same-length
 same-length c = search needs
@@ -78,8 +85,14 @@ returns-5 c = let put = c .before .before in
     let scanned = good .before .before in
     let known = scanned .before .before in
     let call = known .before .before in (
-      import-answers _ _ (call .before .if1 .left) _ (call .heading-end .ensures) _ (known .first .given .1) _ (scanned .scan .ensures) _ _ (good .scanned2 .given .1) _ (checked .check-trains .ensures) (passed .enum-told2 .given .1),
-      (import-writes _ _ (call .before .if1 .left) _ (call .heading-end .ensures) _ (known .first .given .1) _ (scanned .scan .ensures) _ _ (good .scanned2 .given .1) _ (checked .check-trains .ensures) _ _ (put .put-entries .ensures), refl),
+      import-answers _ _ _ (begun _ (call .before .if1 .left) _ (call .heading-end .ensures) _ (known .first .given .1))
+          _ (scanned .scan .ensures) _ _ (good .scanned2 .given .1) _ (checked .check-trains .ensures) (passed .enum-told2 .given .1),
+      (
+        import-writes _ _ _ (begun _ (call .before .if1 .left) _ (call .heading-end .ensures) _ (known .first .given .1))
+            _ (scanned .scan .ensures) _ _ (good .scanned2 .given .1) _ (checked .check-trains .ensures) (passed .enum-told2 .given .1)
+            _ _ (put .put-entries .ensures),
+        refl,
+      ),
     )
 
 pub import-spec : {M : Type 1} → statement M

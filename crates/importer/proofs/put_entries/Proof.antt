@@ -6,7 +6,8 @@ use lib.ListN.{length, drop}
 use Rattle.listing.specs.Answer.{trainsOf}
 use Rattle.importer.specs.Inside.{listedFrom}
 use Rattle.importer.proofs.Ways.{told-train}
-use Rattle.importer.proofs.Writes.{Putting, putting-begins, putting-never, putting-less, putting-room, putting-on, putting-ends}
+use Rattle.importer.proofs.Answers.{train-less}
+use Rattle.importer.proofs.Writes.{Putting, putting-begins, putting-never, putting-room, putting-on, putting-ends}
 use borrow.Author.Needs.{needs}
 use Rattle.importer.proofs.put_entries.Statement.{statement}
 use Rattle.importer.proofs.put_entries.Tie as tie
@@ -62,7 +63,7 @@ loop-less : tie.Need-loop-less Inv-loop μ-loop
 loop-less c = let known = c .before .before .before .before .before .before in
     let call = known .before .before in
     let loop = call .before .before in
-    putting-less _ _ _ _ _ _ (loop .loop .inv) _ _ _ (known .entry .given .1) (call .entry-at .ensures)
+    train-less (loop .before .before .before .args .text .now) (loop .loop .at) _ _ _ (known .entry .given .1) (call .entry-at .ensures)
 
 loop-again : tie.Need-loop-again Inv-loop μ-loop
 loop-again c = let put = c .before .before in

@@ -4,7 +4,7 @@
 use native.Mathlib.Omega.{arith}
 use lib.ListN.{length, drop}
 use Rattle.importer.proofs.Ways.{told-train}
-use Rattle.importer.proofs.Answers.{left-at, Scanning, scan-begins, scan-bad, scan-less, scan-on, scan-ends}
+use Rattle.importer.proofs.Answers.{train-less, Scanning, scan-begins, scan-bad, scan-on, scan-ends}
 use borrow.Author.Needs.{needs}
 use Rattle.importer.proofs.scan.Statement.{statement}
 use Rattle.importer.proofs.scan.Tie as tie
@@ -45,7 +45,8 @@ add-count c = let loop = c .before .before .before .before .before .before in om
 loop-less : tie.Need-loop-less Inv-loop μ-loop
 loop-less c = let known = c .before .before in
     let call = known .before .before in
-    scan-less _ _ _ _ _ (call .before .before .loop .inv) _ _ _ (known .entry .given .1) (call .entry-at .ensures)
+    let loop = call .before .before in
+    train-less (loop .before .before .args .text .now) (loop .loop .at) _ _ _ (known .entry .given .1) (call .entry-at .ensures)
 
 loop-again : tie.Need-loop-again Inv-loop μ-loop
 loop-again c = let known = c .before .before in

@@ -11,7 +11,8 @@ use Rattle.importer.proofs.word_at.Statement.{statement}
 use Rattle.importer.proofs.word_at.Tie as tie
 
 abbrev Inv-loop : tie.InvT-loop
-Inv-loop text at word next₀ letter₀ next letter = (beginsWith (drop letter word) (drop next text) ≡ beginsWith word (drop at text)) × (next ≡ at + letter) × (letter ≤ length word)
+Inv-loop text at word next₀ letter₀ next letter =
+    (beginsWith (drop letter word) (drop next text) ≡ beginsWith word (drop at text)) × (next ≡ at + letter) × (letter ≤ length word)
 
 abbrev μ-loop : tie.MeasureT-loop
 μ-loop text at word next₀ letter₀ next letter = length word - letter
@@ -52,9 +53,12 @@ loop-again c = let turn = c .before .before .before .before in (
 )
 
 returns-3 : tie.Need-returns-3 Inv-loop μ-loop
-returns-3 c = let start = c .before .before in
-    word-same (start .args .word .now) (start .args .text .now) (start .args .at) (c .before .loop .next)
-    (omega (arith, c .before .loop .inv .1, c .before .loop .inv .2, c .loop-test .left)) (begins-all (start .args .word .now) (start .args .text .now) (c .before .loop .letter) (c .before .loop .next) (c .loop-test .left) ∙ c .before .loop .inv .0)
+returns-3 c = let loop = c .before in
+    let args = loop .before .args in
+    let ends = c .loop-test .left in
+    word-same (args .word .now) (args .text .now) (args .at) (loop .loop .next)
+    (omega (arith, loop .loop .inv .1, loop .loop .inv .2, ends))
+    (begins-all (args .word .now) (args .text .now) (loop .loop .letter) (loop .loop .next) ends ∙ loop .loop .inv .0)
 
 pub word-at-spec : {M : Type 1} → statement M
 word-at-spec =
