@@ -12,11 +12,11 @@ use lib.Dec.{eqb}
 use lib.ListN.{length, getD, drop, drop-of-length-le, List·getD-eq-default}
 use lib.Seq.{drop-cons, drop-drop, getD-drop}
 use borrow.Author.Tests.{eq-eqb, ne-eqb}
+use Rattle.decimal.specs.declared.Number.{Number}
+use Rattle.decimal.specs.declared.Number.the-variants as numbers
 use Rattle.decimal.specs.Answer.{Found, nothing, found, numberIn, numberAt}
 use Rattle.decimal.specs.Inside.{foundAt}
 use Rattle.decimal.proofs.Ways.{found-again}
-use Rattle.decimal.specs.declared.Number.{Number}
-use Rattle.decimal.specs.declared.Number.the-variants as numbers
 use Rattle.fraction.specs.declared.Fraction.{Fraction}
 use Rattle.table.specs.declared.Entry.{Entry}
 use Rattle.listing.specs.Grammar.{quote, comma, return, newline}
@@ -141,7 +141,7 @@ abbrev holding : Fraction → Found (Unit {0}) → Found Fraction
 holding a nothing = nothing
 holding a (found u rest) = found a rest
 
-pub passing-any : (byte : ℕ) (a : Fraction) (l : List ℕ) → holding a (passing byte (standing l)) ≡ passing byte (found a l)
+passing-any : (byte : ℕ) (a : Fraction) (l : List ℕ) → holding a (passing byte (standing l)) ≡ passing byte (found a l)
 unfolding passing
 passing-any byte a l = go (eqb (getD l 0 0) byte)
   where
@@ -149,7 +149,7 @@ passing-any byte a l = go (eqb (getD l 0 0) byte)
     go true = refl
     go false = refl
 
-pub ended-any : (a : Fraction) (l : List ℕ) → holding a (ended (standing l)) ≡ ended (found a l)
+ended-any : (a : Fraction) (l : List ℕ) → holding a (ended (standing l)) ≡ ended (found a l)
 unfolding ended
 ended-any a [] = refl
 ended-any a (b ∷ bs) = go (eqb b return)
@@ -175,26 +175,36 @@ pub place-found : (byte : ℕ) (text : List ℕ) (place : Behind) (end : ℕ) �
     passing byte (standing (drop end text)) ≡ passing byte (placeOf text place)
 place-found byte text place end e = ap (λ (t : Behind). passing byte (placeOf text t)) (sym e)
 
+-- a time with the place behind what stands behind it
 module _ (text : List ℕ) (time : Time) (a : Fraction) (end : ℕ) (is : time ≡ times.Found a end) (r : Behind) where
+  then-told :
+      (byte : ℕ) (v : Behind) → placeOf text r ≡ passing byte (standing (drop end text)) → r ≡ v →
+      holding a (placeOf text v) ≡ passing byte (timeOf text time)
+  then-told byte v e g =
+      ap (holding a) (told-place text r v _ e g)
+      ∙ passing-any byte a (drop end text)
+      ∙ ap (λ (t : Time). passing byte (timeOf text t)) (sym is)
+
   pub then-missing :
       (byte : ℕ) → placeOf text r ≡ passing byte (standing (drop end text)) → r ≡ places.Missing → nothing ≡ passing byte (timeOf text time)
-  then-missing byte e g =
-      ap (holding a) (told-place text r _ _ e g) ∙ passing-any byte a (drop end text) ∙ ap (λ (t : Time). passing byte (timeOf text t)) (sym is)
+  then-missing byte e g = then-told byte places.Missing e g
 
   pub then-found :
       (byte next : ℕ) → placeOf text r ≡ passing byte (standing (drop end text)) → r ≡ places.At next →
       found a (drop next text) ≡ passing byte (timeOf text time)
-  then-found byte next e g =
-      ap (holding a) (told-place text r _ _ e g) ∙ passing-any byte a (drop end text) ∙ ap (λ (t : Time). passing byte (timeOf text t)) (sym is)
+  then-found byte next e g = then-told byte (places.At next) e g
+
+  end-told :
+      (v : Behind) → placeOf text r ≡ ended (standing (drop end text)) → r ≡ v → holding a (placeOf text v) ≡ ended (timeOf text time)
+  end-told v e g =
+      ap (holding a) (told-place text r v _ e g) ∙ ended-any a (drop end text) ∙ ap (λ (t : Time). ended (timeOf text t)) (sym is)
 
   pub end-missing : placeOf text r ≡ ended (standing (drop end text)) → r ≡ places.Missing → nothing ≡ ended (timeOf text time)
-  end-missing e g =
-      ap (holding a) (told-place text r _ _ e g) ∙ ended-any a (drop end text) ∙ ap (λ (t : Time). ended (timeOf text t)) (sym is)
+  end-missing e g = end-told places.Missing e g
 
   pub end-found :
       (next : ℕ) → placeOf text r ≡ ended (standing (drop end text)) → r ≡ places.At next → found a (drop next text) ≡ ended (timeOf text time)
-  end-found next e g =
-      ap (holding a) (told-place text r _ _ e g) ∙ ended-any a (drop end text) ∙ ap (λ (t : Time). ended (timeOf text t)) (sym is)
+  end-found next e g = end-told (places.At next) e g
 
 -- ---- A field
 
@@ -245,7 +255,7 @@ module _ {A B : Type 0} (s t : List ℕ → Found A) (make : A → A → A → B
   first-is nothing = refl
   first-is (found x l1) = second-is x (passing comma (fieldIn s l1))
 
-  pub three-is : (r : List ℕ → Found A) (l : List ℕ) → firstOf (passing comma (fieldIn r l)) ≡ threeIn r s t make l
+  three-is : (r : List ℕ → Found A) (l : List ℕ) → firstOf (passing comma (fieldIn r l)) ≡ threeIn r s t make l
   unfolding threeIn
   three-is r l = first-is (passing comma (fieldIn r l))
 
@@ -319,6 +329,8 @@ module _ (word text : List ℕ) (at : ℕ) where
   unfolding wordIn
   word-other h = rw (← h)
 
-  pub word-same : (next : ℕ) → next ≡ at + length word → true ≡ beginsWith word (drop at text) → standing (drop next text) ≡ wordIn word (drop at text)
+  pub word-same :
+      (next : ℕ) → next ≡ at + length word → true ≡ beginsWith word (drop at text) →
+      standing (drop next text) ≡ wordIn word (drop at text)
   unfolding wordIn
   word-same next e h = rw (← h, drop-drop (length word) at text, e)
