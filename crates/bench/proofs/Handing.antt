@@ -1,11 +1,12 @@
 -- What the functions hand back and leave, on plain values: one law for each way through them, and for a call that answered what was meant.
 -- Core: the text of the definitions.
 -- Assumes nothing.
-use Prim.Native.Nat.{ℕ, _≤_}
+use Prim.Native.Nat.{ℕ}
 use mathlib.Core.Path.{_≡_, sym, ap, subst, _∙_}
 use mathlib.Core.List.{List, [], _∷_}
 use lib.Seq.{sets}
 use Rattle.refusal.specs.declared.Refusal.{Refusal}
+use Rattle.table.specs.Row.{Words}
 use Rattle.judge.specs.declared.Figures.{Figures}
 use Rattle.judge.specs.declared.Meeting.{Meeting}
 use Rattle.judge.specs.declared.Verdict.{Verdict}
@@ -15,8 +16,6 @@ use Rattle.stored.specs.declared.Loaded.{Loaded}
 use Rattle.stored.specs.Answer.{saved, savedIn, loaded, loadedIn}
 use Rattle.listing.specs.declared.Imported.{Imported}
 use Rattle.listing.specs.declared.Exported.{Exported}
-use Rattle.listing.specs.declared.Exported.the-variants as exports
-use Rattle.listing.specs.Layout.{longestExport}
 use Rattle.listing.specs.Answer.{imported, importedIn, exported, exportedIn}
 use Rattle.line.specs.declared.Written.{Written}
 use Rattle.line.specs.Answer.{written, writtenIn}
@@ -105,9 +104,8 @@ module _ (text : List ℕ) (room : ℕ) (x : Imported) (x-is : x ≡ imported te
 
 -- a listing that was exported
 module _ (row : List ℕ) (room : ℕ) (x : Exported) (x-is : x ≡ exported row room) where
-  pub exported-fitting : ((n : ℕ) → x ≡ exports.Length n → n ≤ longestExport) → Fits (exportedParts x)
-  exported-fitting short =
-      subst (λ (t : Exported). Fits (exportedParts t)) (sym x-is) (exported-fits row room (λ n e. short n (x-is ∙ e)))
+  pub exported-fitting : Words row → Fits (exportedParts x)
+  exported-fitting words = subst (λ (t : Exported). Fits (exportedParts t)) (sym x-is) (exported-fits row room words)
 
   pub hands-exported :
       (before after : List ℕ) (r : ℕ) → r ≡ exportedCode x → after ≡ exportedIn x row before →

@@ -1,10 +1,10 @@
 -- Every answer of import and of export has room in the number that is handed back.
 -- Core: passed-few, that a text has no more good records than bytes. The rest follows the text of the checks.
 -- Assumes nothing.
-use Prim.Native.Nat.{ℕ, _+_, _^_, _<_, _≤_}
+use Prim.Native.Nat.{ℕ, _+_, _≤_}
 use mathlib.Core.Path.{_≡_, refl, sym, ap, subst, _∙_}
 use mathlib.Core.Bool.{Bool, true, false}
-use mathlib.Core.List.{List, _∷_, _++_, map}
+use mathlib.Core.List.{List, _∷_}
 use native.Mathlib.Omega.{arith}
 use lib.Dec.{ltb}
 use lib.ListN.{length, length-append}
@@ -15,14 +15,14 @@ use Rattle.refusal.specs.Paper.{none, paper}
 use Rattle.table.specs.declared.Entry.{Entry}
 use Rattle.table.specs.declared.Outcome.{Outcome}
 use Rattle.table.specs.declared.Outcome.the-variants as outcomes
-use Rattle.table.specs.Row.{Words, capacity, entries, rowOf, lowestEntry}
+use Rattle.table.specs.Row.{Words, capacity, rowOf}
 use Rattle.table.specs.Answer.{checked}
 use Rattle.listing.specs.declared.Imported.{Imported}
 use Rattle.listing.specs.declared.Imported.the-variants as imports
 use Rattle.listing.specs.declared.Exported.{Exported}
 use Rattle.listing.specs.declared.Exported.the-variants as exports
 use Rattle.listing.specs.Means.{Passed, BadAt}
-use Rattle.listing.specs.Layout.{longestText, longestExport, textOf}
+use Rattle.listing.specs.Layout.{longestText}
 use Rattle.listing.specs.Paper.{paperImported, paperExported}
 use Rattle.listing.specs.Answer.{Listed, bad, trains, listed, tableCheck, importedAfter, importedOf, imported, exportCheck, exportedAfter, exported}
 use Rattle.listing.proofs.Texts.{read-bad}
@@ -96,15 +96,11 @@ export-after (outcomes.Refused q) n r named e =
 pub export-names : (row : List ℕ) (room : ℕ) (r : Refusal) → exported row room ≡ exports.Refused r → paper r .place ≤ none
 export-names row room r e = export-after (exportCheck row room) _ r (export-named row room) e
 
--- a text that is no longer than the longest
-pub exported-fits :
-    (row : List ℕ) (room : ℕ) → ((n : ℕ) → exported row room ≡ exports.Length n → n ≤ longestExport) → Fits (exportedParts (exported row room))
-exported-fits row room short = go (exported row room) refl
+-- the numbers of the row have 32 bits, so the text is no longer than the longest
+pub exported-fits : (row : List ℕ) (room : ℕ) → Words row → Fits (exportedParts (exported row room))
+exported-fits row room words = go (exported row room) refl
   where
     go : (x : Exported) → exported row room ≡ x → Fits (exportedParts x)
-    go (exports.Length n) e = record { number = omega arith; kind = omega arith; value = omega (arith, short n e) }
+    go (exports.Length n) e =
+        record { number = omega arith; kind = omega arith; value = omega (arith, export-longest row room n words (ap paperExported e)) }
     go (exports.Refused r) e = refused-fits r (omega (arith, export-names row room r e))
-
--- as it is of a row of 32-bit numbers
-pub exported-short : (row : List ℕ) (room : ℕ) → Words row → (n : ℕ) → exported row room ≡ exports.Length n → n ≤ longestExport
-exported-short row room words n e = export-longest row room n words (ap paperExported e)

@@ -25,7 +25,7 @@ promises =
       save-tells = λ row room. fitting.told _ (fitting.saved-fits row room);
       load-tells = λ bs room. fitting.told _ (fitting.loaded-fits bs room);
       import-tells = λ text room. fitting.told _ (listings.imported-fits text room);
-      export-tells = λ row room words. fitting.told _ (listings.exported-fits row room (listings.exported-short row room words));
+      export-tells = λ row room words. fitting.told _ (listings.exported-fits row room words);
       admit-tells = λ ws delay period duration. fitting.told _ (dispatching.admission-fits (recordIn ws) _);
       withdraw-tells = λ ws q. fitting.told _ (dispatching.withdrawal-fits (recordIn ws) q);
       step-tells = λ ws count words. fitting.told _ (dispatching.tick-fits (recordIn ws) count (words (lastAt + 1)));
@@ -40,7 +40,7 @@ promises =
       import-seen = λ text room. seeing.imported-seen (imported text room) (listings.imported-fits text room);
       export-seen =
           λ row room words.
-          seeing.exported-seen (exported row room) (listings.exported-fits row room (listings.exported-short row room words));
+          seeing.exported-seen (exported row room) (listings.exported-fits row room words);
       admit-seen =
           λ ws delay period duration.
           seeing.admission-seen (admissionIn ws delay period duration .answer) (dispatching.admission-fits (recordIn ws) _);

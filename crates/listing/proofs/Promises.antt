@@ -2,7 +2,7 @@
 -- Assumes nothing.
 use Prim.Native.Nat.{ℕ}
 use mathlib.Core.Path.{_≡_, refl}
-use mathlib.Core.List.{List, [], _∷_, flatMap}
+use mathlib.Core.List.{[], _∷_, flatMap}
 use Rattle.refusal.specs.Paper.{refuse}
 use Rattle.euclid.specs.Answer.{euclidWithin, euclid, gcd}
 use Rattle.decimal.specs.Answer.{isDigit, digitsFrom, numberIn}

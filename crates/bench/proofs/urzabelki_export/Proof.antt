@@ -9,7 +9,10 @@ export-requires : tie.Need-export-requires
 export-requires c κs = search needs
 
 hand-exported-requires : tie.Need-hand-exported-requires
-hand-exported-requires c κs = exported-fitting _ _ _ (c .before .before .export .ensures .0)
+hand-exported-requires c κs =
+    let wrote = c .before .before in
+    let known = wrote .before .before .before .shared-slice-known .given in
+    exported-fitting _ _ _ (wrote .export .ensures .0) (λ i. known i .fits)
 
 same-length : tie.Need-same-length
 same-length c = search needs

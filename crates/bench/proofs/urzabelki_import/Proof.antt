@@ -17,7 +17,7 @@ same-length c = search needs
 returns : tie.Need-returns
 returns c =
     let wrote = c .before .before .before .import in
-    hands-imported _ _ _ (wrote .ensures .0) _ _ _ (c .hand-imported .ensures) (wrote .ensures .1)
+    hands-imported _ _ _ (wrote .ensures .0) _ _ _ (c .hand-imported .ensures) (wrote .ensures .1 .0)
 
 pub urzabelki-import-spec : {M : Type 1} → statement M
 urzabelki-import-spec = tie.close (tie.spec import-requires hand-imported-requires same-length returns)
