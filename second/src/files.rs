@@ -65,7 +65,7 @@ pub fn room_for(draw: &mut Draw, file: &[u8]) -> usize {
 }
 
 /// A room for what is needed: none, too little by one, just enough, more than enough, or any.
-fn room(draw: &mut Draw, needed: usize, most: usize) -> usize {
+pub fn room(draw: &mut Draw, needed: usize, most: usize) -> usize {
     let any = draw.between(0, most as u64) as usize;
     let more = needed + draw.between(1, 30) as usize;
     draw.of(&[0, needed.saturating_sub(1), needed, needed, more, more, more, any]).min(most)
@@ -84,7 +84,7 @@ fn crossed(a: &[u32], b: &[u32]) -> u64 {
 // ---- rows to be saved
 
 /// A row of any kind that is drawn for verdicts.
-fn any_row(draw: &mut Draw) -> Vec<u32> {
+pub fn any_row(draw: &mut Draw) -> Vec<u32> {
     rows::row(draw.between(0, LARGEST), draw.between(0, LARGEST))
 }
 
@@ -122,7 +122,7 @@ fn large_fractions(draw: &mut Draw) -> Vec<u32> {
 // ---- good files
 
 /// Trains that can be stored just as they are, at least one.
-fn lowest_row(draw: &mut Draw) -> Vec<u32> {
+pub fn lowest_row(draw: &mut Draw) -> Vec<u32> {
     let mut rows = (0..TRIES).filter_map(|_| {
         let row = if draw.once_in(4) { large_fractions(draw) } else { any_row(draw) };
         load(&save(&row, LONGEST_FILE).ok()?, LONGEST_ROW).ok()
@@ -237,7 +237,7 @@ fn fitted(draw: &mut Draw) -> Vec<u8> {
 // ---- files with faults in their trains
 
 /// Gives a train a fault that mostly deserves the refusal of that number, if no other comes before it.
-fn harm(draw: &mut Draw, train: &mut [u32], number: u32) {
+pub fn harm(draw: &mut Draw, train: &mut [u32], number: u32) {
     match number {
         2 => train[draw.of(&[1, 3, 5])] = 0,
         // as 0/1, or as 0/m, which is not in lowest terms either

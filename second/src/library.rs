@@ -1,7 +1,7 @@
 //! The proved library, libbench.a, as include/urzabelki.h says it: a safe function for each of its C functions, with slices
 //! and arrays for its pointers. Only this file knows that there is C in between.
 
-use crate::paper;
+use crate::{listing, paper};
 
 /// The numbers of the header, without the name that each begins with; build.rs takes them from there.
 #[allow(dead_code)]
@@ -23,6 +23,8 @@ const _: () = assert!(header::TRAINS as usize == paper::MOST_TRAINS);
 const _: () = assert!(header::NUMBERS as usize == paper::NUMBERS_A_TRAIN);
 const _: () = assert!(header::LONGEST_ROW as usize == paper::MOST_NUMBERS);
 const _: () = assert!(header::LONGEST_STORED as usize == paper::LONGEST_FILE);
+const _: () = assert!(header::LONGEST_TEXT as usize == paper::LONGEST_TEXT);
+const _: () = assert!(header::LONGEST_EXPORT as usize == listing::LONGEST_EXPORT);
 const _: () = assert!(header::MAX_MULTIPLE == paper::MOST_MULTIPLE);
 const _: () = assert!(header::MAX_TICKS == paper::MOST_TICKS);
 const _: () = assert!(header::PLACES as usize == paper::PLACES);
@@ -62,6 +64,8 @@ extern "C" {
     fn urzabelki_line_stored(bytes: *const u8, length: usize, text: *mut u8, room: usize) -> u64;
     fn urzabelki_save(row: *const u32, length: usize, bytes: *mut u8, room: usize) -> u64;
     fn urzabelki_load(bytes: *const u8, length: usize, row: *mut u32, room: usize) -> u64;
+    fn urzabelki_import(text: *const u8, length: usize, row: *mut u32, room: usize) -> u64;
+    fn urzabelki_export(row: *const u32, length: usize, text: *mut u8, room: usize) -> u64;
     fn urzabelki_fresh(words: *mut u32, count: u32);
     fn urzabelki_admit(words: *mut u32, delay: u32, period: u32, duration: u32) -> u64;
     fn urzabelki_withdraw(words: *mut u32, place: u32) -> u64;
@@ -93,6 +97,14 @@ pub fn save(row: &[u32], bytes: &mut [u8]) -> Parts {
 
 pub fn load(bytes: &[u8], row: &mut [u32]) -> Parts {
     Parts::taken_apart(unsafe { urzabelki_load(bytes.as_ptr(), bytes.len(), row.as_mut_ptr(), row.len()) })
+}
+
+pub fn import(text: &[u8], row: &mut [u32]) -> Parts {
+    Parts::taken_apart(unsafe { urzabelki_import(text.as_ptr(), text.len(), row.as_mut_ptr(), row.len()) })
+}
+
+pub fn export(row: &[u32], text: &mut [u8]) -> Parts {
+    Parts::taken_apart(unsafe { urzabelki_export(row.as_ptr(), row.len(), text.as_mut_ptr(), text.len()) })
 }
 
 pub fn fresh(words: &mut Words, count: u32) {

@@ -9,11 +9,14 @@ mod draw;
 mod far;
 mod files;
 mod library;
+mod listing;
+mod listings;
 mod paper;
 mod records;
 mod replay;
 mod rows;
 mod scripts;
+mod settled;
 mod sheet;
 mod states;
 mod stored;
@@ -30,9 +33,12 @@ use std::process::ExitCode;
 const USAGE: &str = "\
 usage: second compare SEED CASES
                                  compares the proved library with the second program on so many cases drawn from
-                                 the seed: verdicts on rows, saves, loads and verdicts on files, calls of a
-                                 dispatcher, and calls on words that no calls need have led to; the first
-                                 difference is shown with its case, and the exit status is then 1
+                                 the seed: verdicts on rows, saves, loads and verdicts on files, imports and
+                                 exports of listings, calls of a dispatcher, and calls on words that no calls need
+                                 have led to; the first difference is shown with its case, and the exit status is
+                                 then 1
+       second listings SEED CASES
+                                 the same for imports and exports of listings alone
        second far SEED SCENES    steps dispatchers of the library, for twelve to twenty-one million steps in each of so
                                  many scenes drawn from the seed, and compares each step: delays and periods up to ten
                                  million ticks, the wrap of the count, withdrawals and admissions in between; in
@@ -90,6 +96,7 @@ fn run(words: &[&str], out: &mut impl Write) -> Option<Result<()>> {
 fn drawn(command: &str, seed: u64, number: u64, out: &mut impl Write) -> Option<Result<()>> {
     match command {
         "compare" => Some(compare::compare(seed, number, out)),
+        "listings" => Some(compare::listings(seed, number, out)),
         "far" => Some(compare::far::compare(seed, number, out)),
         "script" => Some(out.write_all(&texts::drawn(seed, number))),
         "script-lines" => Some(out.write_all(replay::answers(&texts::drawn(seed, number)).as_bytes())),

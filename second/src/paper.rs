@@ -13,6 +13,9 @@ pub const HEAD: usize = 7;
 pub const BYTES_A_TRAIN: usize = 24;
 pub const LONGEST_FILE: usize = HEAD + MOST_TRAINS * BYTES_A_TRAIN;
 
+/// A listing that is read has no more bytes.
+pub const LONGEST_TEXT: usize = 32_768;
+
 /// The places of a dispatcher.
 pub const PLACES: usize = 64;
 

@@ -10,24 +10,29 @@ const VERSION: u16 = 1;
 /// So many bytes of its input are judged by the program `verdict`: one more than the longest file has.
 pub const MOST_JUDGED: usize = LONGEST_FILE + 1;
 
-/// The number of a refusal, and the train that it blames.
+/// The number of a refusal, and the train or the record that it blames.
 pub type Refused = (u32, usize);
 
 /// The file of a row, if it fits into so many bytes.
 pub fn save(row: &[u32], room: usize) -> Result<Vec<u8>, Refused> {
-    let is_no_table = row.len() % NUMBERS_A_TRAIN != 0 || row.len() > MOST_NUMBERS;
-    let table: Vec<[Time; 3]> = row.chunks_exact(NUMBERS_A_TRAIN).map(times).collect();
-    let length = HEAD + BYTES_A_TRAIN * table.len();
-    let of_row = is_no_table.then_some((1, NO_TRAIN));
-    let of_trains = table.iter().enumerate().filter_map(|(at, train)| Some((fault(train)?, at)));
-    let of_room = (room < length).then_some((8, NO_TRAIN));
-    match of_row.into_iter().chain(of_trains).chain(of_room).next() {
-        Some(refused) => Err(refused),
-        None => Ok(packed(&in_lowest_terms(&table))),
+    let file = packed(&in_lowest_terms(&trains(row)?));
+    match room < file.len() {
+        true => Err((8, NO_TRAIN)),
+        false => Ok(file),
     }
 }
 
-fn in_lowest_terms(table: &[[Time; 3]]) -> Vec<u32> {
+/// The trains of a row that can be saved, or exported, if there is room for it.
+pub fn trains(row: &[u32]) -> Result<Vec<[Time; 3]>, Refused> {
+    let is_no_table = row.len() % NUMBERS_A_TRAIN != 0 || row.len() > MOST_NUMBERS;
+    let table: Vec<[Time; 3]> = row.chunks_exact(NUMBERS_A_TRAIN).map(times).collect();
+    let of_row = is_no_table.then_some((1, NO_TRAIN));
+    let of_trains = table.iter().enumerate().filter_map(|(at, train)| Some((fault(train)?, at)));
+    let refused = of_row.into_iter().chain(of_trains).next();
+    refused.map_or(Ok(table), Err)
+}
+
+pub fn in_lowest_terms(table: &[[Time; 3]]) -> Vec<u32> {
     let times = table.iter().flatten().map(|time| lowest(*time));
     times.flat_map(|time| [time.numerator, time.denominator]).collect()
 }

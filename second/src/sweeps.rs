@@ -1,14 +1,9 @@
-//! Good files, each damaged in every place in turn: every beginning of it, and it with every byte changed, to all other
-//! values where the file is small and to a few drawn ones where it is not.
+//! Good files, stored tables or listings, each damaged in every place in turn: every beginning of it, and it with every byte
+//! changed, to all other values where the file is small and to a few drawn ones where it is not.
 
 use crate::draw::Draw;
-use crate::files::good;
-use crate::paper::{BYTES_A_TRAIN, HEAD};
 
-/// Files of no more trains than this get every other value at every place.
-const SMALL: usize = HEAD + 2 * BYTES_A_TRAIN;
-
-/// Other files get so many drawn values at every place.
+/// Other files than small ones get so many drawn values at every place.
 const DRAWN: usize = 3;
 
 /// Every so many files a small one.
@@ -16,6 +11,10 @@ const TURNS: u64 = 8;
 
 pub struct Sweeps {
     seed: u64,
+    /// Draws a good file.
+    good: fn(&mut Draw) -> Vec<u8>,
+    /// A file of no more bytes is small: it gets every other value at every place.
+    small: usize,
     /// How many files were swept.
     swept: u64,
     /// What is still to come of this one.
@@ -23,8 +22,8 @@ pub struct Sweeps {
 }
 
 impl Sweeps {
-    pub fn new(seed: u64) -> Sweeps {
-        Sweeps { seed, swept: 0, next: Box::new(std::iter::empty()) }
+    pub fn new(seed: u64, good: fn(&mut Draw) -> Vec<u8>, small: usize) -> Sweeps {
+        Sweeps { seed, good, small, swept: 0, next: Box::new(std::iter::empty()) }
     }
 
     /// The next damaged file, without end.
@@ -33,10 +32,22 @@ impl Sweeps {
             if let Some(file) = self.next.next() {
                 return file;
             }
-            let draw = Draw::new(self.seed, self.swept);
-            self.next = if self.swept % TURNS == 0 { whole_sweep(draw) } else { drawn_sweep(draw) };
+            let mut draw = Draw::new(self.seed, self.swept);
+            let file = (self.good)(&mut draw);
+            self.next = match self.swept % TURNS {
+                0 => whole_sweep(self.small_file(draw, file)),
+                _ => drawn_sweep(draw, file),
+            };
             self.swept += 1;
         }
+    }
+
+    /// The file, or the first small one that is drawn after it.
+    fn small_file(&self, mut draw: Draw, mut file: Vec<u8>) -> Vec<u8> {
+        while file.len() > self.small {
+            file = (self.good)(&mut draw);
+        }
+        file
     }
 }
 
@@ -52,11 +63,7 @@ fn changed(file: &[u8], at: usize, byte: u8) -> Vec<u8> {
 }
 
 /// A small file with each byte changed to each other value.
-fn whole_sweep(mut draw: Draw) -> Box<dyn Iterator<Item = Vec<u8>>> {
-    let mut file = good(&mut draw);
-    while file.len() > SMALL {
-        file = good(&mut draw);
-    }
+fn whole_sweep(file: Vec<u8>) -> Box<dyn Iterator<Item = Vec<u8>>> {
     let values = (0..file.len()).flat_map(|at| (1..=255).map(move |further| (at, further)));
     let original = file.clone();
     let swept = values.map(move |(at, further)| changed(&file, at, file[at].wrapping_add(further)));
@@ -64,8 +71,7 @@ fn whole_sweep(mut draw: Draw) -> Box<dyn Iterator<Item = Vec<u8>>> {
 }
 
 /// A file of any length with each byte changed to a few other values.
-fn drawn_sweep(mut draw: Draw) -> Box<dyn Iterator<Item = Vec<u8>>> {
-    let file = good(&mut draw);
+fn drawn_sweep(mut draw: Draw, file: Vec<u8>) -> Box<dyn Iterator<Item = Vec<u8>>> {
     let original = file.clone();
     let places = (0..file.len()).flat_map(|at| [at; DRAWN]);
     let swept = places.map(move |at| changed(&file, at, file[at].wrapping_add(draw.between(1, 255) as u8)));

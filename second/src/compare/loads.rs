@@ -6,7 +6,7 @@ use super::{same, Difference, Tally};
 use crate::draw::Draw;
 use crate::files::{self, hex};
 use crate::library::{self, Parts};
-use crate::paper::NUMBERS_A_TRAIN;
+use crate::paper::{BYTES_A_TRAIN, HEAD, NUMBERS_A_TRAIN};
 use crate::stored::{self, Refused};
 use crate::sweeps::Sweeps;
 use crate::tables::Verdict;
@@ -39,11 +39,14 @@ const JUDGED: [&str; 12] = [
     "refuse 12",
 ];
 
+/// In a sweep files of no more trains than two are small.
+const SMALL: usize = HEAD + 2 * BYTES_A_TRAIN;
+
 /// Every other case is a drawn file, and every other one of a sweep.
 pub fn compare(seed: u64, cases: u64) -> Result<Vec<Tally>, (u64, Difference)> {
     let mut loaded = Tally::new("loads", &LOADED);
     let mut judged = Tally::new("verdicts on the same files", &JUDGED);
-    let mut sweeps = Sweeps::new(seed);
+    let mut sweeps = Sweeps::new(seed, files::good, SMALL);
     for case in 0..cases {
         let draw = &mut Draw::beside(seed, case);
         let file = if case % 2 == 0 { files::loaded(seed, case / 2) } else { sweeps.file() };

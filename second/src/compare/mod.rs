@@ -2,7 +2,9 @@
 //! difference ends it, and is shown with the whole case. At the end a line for each kind says what was compared.
 
 mod calls;
+mod exports;
 pub mod far;
+mod imports;
 mod loads;
 mod memory;
 mod saves;
@@ -22,22 +24,39 @@ type Difference = String;
 /// Compares so many cases of a kind. A difference is told with the number of its case.
 type Kind = fn(seed: u64, cases: u64) -> Result<Vec<Tally>, (u64, Difference)>;
 
-/// The kinds, each with its share of a hundred cases: a verdict takes twenty times as long as a call.
-const KINDS: [(&str, u64, Kind); 5] = [
+/// A kind with its name, and its share of a hundred cases.
+type Share = (&'static str, u64, Kind);
+
+/// All kinds: a verdict takes twenty times as long as a call.
+const KINDS: [Share; 7] = [
     ("verdicts", 15, verdicts::compare),
     ("saves", 10, saves::compare),
-    ("loads", 15, loads::compare),
-    ("calls", 40, calls::compare),
-    ("words", 20, words::compare),
+    ("loads", 10, loads::compare),
+    ("imports", 15, imports::compare),
+    ("exports", 5, exports::compare),
+    ("calls", 30, calls::compare),
+    ("words", 15, words::compare),
 ];
+
+/// Those of listings.
+const LISTINGS: [Share; 2] = [("imports", 80, imports::compare), ("exports", 20, exports::compare)];
 
 /// From so many cases on, every answer has to be met.
 const MANY: u64 = 100_000;
 
 /// Compares so many cases of all kinds together.
 pub fn compare(seed: u64, cases: u64, out: &mut impl Write) -> io::Result<()> {
+    compare_kinds(&KINDS, seed, cases, out)
+}
+
+/// Compares so many listings, imported and exported.
+pub fn listings(seed: u64, cases: u64, out: &mut impl Write) -> io::Result<()> {
+    compare_kinds(&LISTINGS, seed, cases, out)
+}
+
+fn compare_kinds(kinds: &[Share], seed: u64, cases: u64, out: &mut impl Write) -> io::Result<()> {
     writeln!(out, "seed {seed}: {cases} cases")?;
-    for (name, share, kind) in KINDS {
+    for (name, share, kind) in kinds {
         let told = |(case, difference)| {
             Error::other(format!("a difference in {name}, seed {seed}, case {case}\n{difference}"))
         };
