@@ -17,7 +17,7 @@ const LARGE: u64 = 6;
 const END: &str = "\r\n";
 
 /// The kinds that come round in turn, after one of every short text.
-const KINDS: [fn(&mut Draw) -> Vec<u8>; 18] = [
+const KINDS: [fn(&mut Draw) -> Vec<u8>; 19] = [
     exported,
     good,
     of_any_row,
@@ -32,6 +32,7 @@ const KINDS: [fn(&mut Draw) -> Vec<u8>; 18] = [
     odd_heading,
     odd_ends,
     odd_commas,
+    odd_joints,
     faults,
     many_trains,
     long,
@@ -364,7 +365,7 @@ fn odd_values(draw: &mut Draw) -> Vec<u8> {
 }
 
 /// How a field v may be quoted, rightly or wrongly.
-const QUOTES: [&str; 30] = [
+const QUOTES: [&str; 32] = [
     "\"v\"",
     "\"v",
     "v\"",
@@ -395,6 +396,8 @@ const QUOTES: [&str; 30] = [
     "'v'",
     "\"v'",
     "\"v\0\"",
+    "\"v\"\0\"",
+    "\"v\"\n\"",
 ];
 
 fn odd_quotes(draw: &mut Draw) -> Vec<u8> {
@@ -529,6 +532,21 @@ fn odd_commas(draw: &mut Draw) -> Vec<u8> {
         other => vec![*other],
     };
     text.iter().flat_map(odd).collect()
+}
+
+/// A few odd bytes where two fields meet, in place of the comma or of the end of a record, and of the quotes beside it or not.
+fn odd_joints(draw: &mut Draw) -> Vec<u8> {
+    let mut text = good(draw);
+    for _ in 0..draw.of(&[1, 1, 2]) {
+        let joints: Vec<usize> = (0..text.len()).filter(|at| b",\r\n".contains(&text[*at])).collect();
+        let Some(at) = (!joints.is_empty()).then(|| draw.of(&joints)) else { break };
+        let is_quote = |at: usize| text.get(at) == Some(&b'"');
+        let begin = if at > 0 && is_quote(at - 1) && draw.once_in(2) { at - 1 } else { at };
+        let end = if is_quote(at + 1) && draw.once_in(2) { at + 2 } else { at + 1 };
+        let instead: Vec<u8> = (0..draw.between(0, 3)).map(|_| draw.of(b"\"\"\r\n,,\0 1/;")).collect();
+        text.splice(begin..end, instead);
+    }
+    text
 }
 
 // ---- any bytes
