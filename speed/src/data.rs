@@ -4,6 +4,7 @@ use crate::proved::{header, Words, WORDS};
 
 pub const TRAINS: u32 = header::TRAINS;
 pub const MOST_TICKS: u32 = header::MAX_TICKS;
+const LONGEST_TEXT: usize = header::LONGEST_TEXT as usize;
 
 /// Two that follow each other in Fibonacci's sequence: no periods within the limits take more divisions. They are 33.
 pub const MOST_DIVISIONS: [u32; 2] = [9_227_465, 5_702_887];
@@ -112,6 +113,19 @@ pub fn late_collision() -> Vec<u32> {
 /// Two trains that meet at once.
 pub fn early_collision() -> Vec<u32> {
     whole(&[[0, 10, 5], [3, 10, 5]])
+}
+
+/// The listing with so many zeros before its first number that no longer text is imported.
+pub fn longest_text(listing: &[u8]) -> Vec<u8> {
+    let first = listing.iter().position(u8::is_ascii_digit).expect("a listing with a train");
+    let zeros = vec![b'0'; LONGEST_TEXT - listing.len()];
+    [&listing[..first], &zeros, &listing[first..]].concat()
+}
+
+/// As many trains as a text can list, with a blank phase: more than a table takes, so that all of them are read, once.
+pub fn most_records() -> Vec<u8> {
+    let (heading, record) = (&b"phase,period,duration\r\n"[..], &b",1,1\r\n"[..]);
+    [heading, &record.repeat((LONGEST_TEXT - heading.len()) / record.len())].concat()
 }
 
 /// What lent memory holds before a call, so that it shows what a call leaves as it was.

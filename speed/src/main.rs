@@ -36,6 +36,7 @@ fn measure() {
     let verdicts = tables::on_rows();
     tables::on_files_and_lines();
     tables::kept();
+    tables::listed();
     dispatchers::all();
     walks::all();
     floor::all(&verdicts);

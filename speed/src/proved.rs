@@ -23,6 +23,8 @@ mod calls {
         pub fn urzabelki_line(row: *const u32, length: usize, text: *mut u8, room: usize) -> u64;
         pub fn urzabelki_save(row: *const u32, length: usize, bytes: *mut u8, room: usize) -> u64;
         pub fn urzabelki_load(bytes: *const u8, length: usize, row: *mut u32, room: usize) -> u64;
+        pub fn urzabelki_import(text: *const u8, length: usize, row: *mut u32, room: usize) -> u64;
+        pub fn urzabelki_export(row: *const u32, length: usize, text: *mut u8, room: usize) -> u64;
         pub fn urzabelki_fresh(words: *mut u32, count: u32);
         pub fn urzabelki_admit(words: *mut u32, delay: u32, period: u32, duration: u32) -> u64;
         pub fn urzabelki_withdraw(words: *mut u32, place: u32) -> u64;
@@ -59,6 +61,14 @@ pub fn save(row: &[u32], bytes: &mut [u8]) -> u64 {
 
 pub fn load(bytes: &[u8], row: &mut [u32]) -> u64 {
     unsafe { calls::urzabelki_load(bytes.as_ptr(), bytes.len(), row.as_mut_ptr(), row.len()) }
+}
+
+pub fn import(text: &[u8], row: &mut [u32]) -> u64 {
+    unsafe { calls::urzabelki_import(text.as_ptr(), text.len(), row.as_mut_ptr(), row.len()) }
+}
+
+pub fn export(row: &[u32], text: &mut [u8]) -> u64 {
+    unsafe { calls::urzabelki_export(row.as_ptr(), row.len(), text.as_mut_ptr(), text.len()) }
 }
 
 pub fn fresh(words: &mut Words, count: u32) {

@@ -6,6 +6,7 @@ use crate::floor::Measured;
 use crate::print;
 use crate::proved::{header, value, Figures, DIVISIONS, FIGURES};
 use crate::{by_hand, proved};
+use std::fmt::Debug;
 use std::hint::black_box;
 
 /// A call that judges, and one that writes to lent memory. The compiler sees which one it is, so that no call goes by a pointer.
@@ -18,6 +19,7 @@ impl<T, U, F: Fn(&[T], &mut [U]) -> u64> Write<T, U> for F {}
 const LONGEST_STORED: usize = header::LONGEST_STORED as usize;
 const LONGEST_ROW: usize = header::LONGEST_ROW as usize;
 const LONGEST_LINE: usize = header::LONGEST_LINE as usize;
+const LONGEST_EXPORT: usize = header::LONGEST_EXPORT as usize;
 
 /// One call of a judge, with all that it leaves in the figures.
 fn figures_of<T>(judge: impl Judge<T>, input: &[T]) -> (u64, Figures) {
@@ -73,25 +75,35 @@ fn left_by<T, U: Copy>(write: impl Write<T, U>, input: &[T], fill: U, room: usiz
     (write(input, &mut lent), lent)
 }
 
+/// Measures two calls that write to lent memory, and prints their line.
+fn written<T, U: Copy + PartialEq + Debug>(
+    name: &str,
+    (proved, by_hand): (impl Write<T, U> + Copy, impl Write<T, U> + Copy),
+    input: &[T],
+    (fill, room): (U, usize),
+) {
+    assert_eq!(left_by(proved, input, fill, room), left_by(by_hand, input, fill, room), "{name}");
+    print_pair(name, race([&mut writes(proved, input, fill, room), &mut writes(by_hand, input, fill, room)]));
+}
+
 fn line(name: &str, row: &[u32]) {
-    let written = left_by(proved::line, row, BYTE, LONGEST_LINE);
-    assert_eq!(written, left_by(by_hand::line, row, BYTE, LONGEST_LINE), "{name}");
-    let mut proved = writes(proved::line, row, BYTE, LONGEST_LINE);
-    print_pair(name, race([&mut proved, &mut writes(by_hand::line, row, BYTE, LONGEST_LINE)]));
+    written(name, (proved::line, by_hand::line), row, (BYTE, LONGEST_LINE));
 }
 
 fn save(name: &str, row: &[u32]) {
-    let written = left_by(proved::save, row, BYTE, LONGEST_STORED);
-    assert_eq!(written, left_by(by_hand::save, row, BYTE, LONGEST_STORED), "{name}");
-    let mut proved = writes(proved::save, row, BYTE, LONGEST_STORED);
-    print_pair(name, race([&mut proved, &mut writes(by_hand::save, row, BYTE, LONGEST_STORED)]));
+    written(name, (proved::save, by_hand::save), row, (BYTE, LONGEST_STORED));
 }
 
 fn load(name: &str, bytes: &[u8]) {
-    let written = left_by(proved::load, bytes, NUMBER, LONGEST_ROW);
-    assert_eq!(written, left_by(by_hand::load, bytes, NUMBER, LONGEST_ROW), "{name}");
-    let mut proved = writes(proved::load, bytes, NUMBER, LONGEST_ROW);
-    print_pair(name, race([&mut proved, &mut writes(by_hand::load, bytes, NUMBER, LONGEST_ROW)]));
+    written(name, (proved::load, by_hand::load), bytes, (NUMBER, LONGEST_ROW));
+}
+
+fn import(name: &str, text: &[u8]) {
+    written(name, (proved::import, by_hand::import), text, (NUMBER, LONGEST_ROW));
+}
+
+fn export(name: &str, row: &[u32], room: usize) {
+    written(name, (proved::export, by_hand::export), row, (BYTE, room));
 }
 
 /// The stored table of a row.
@@ -100,6 +112,14 @@ fn stored(row: &[u32]) -> Vec<u8> {
     let length = value(proved::save(row, &mut bytes), header::DONE);
     bytes.truncate(length);
     bytes
+}
+
+/// The listing of a row.
+fn listing(row: &[u32]) -> Vec<u8> {
+    let mut text = vec![BYTE; LONGEST_EXPORT];
+    let length = value(proved::export(row, &mut text), header::DONE);
+    text.truncate(length);
+    text
 }
 
 const COLUMNS: [&str; 3] = ["proved", "Rust", "proved/Rust"];
@@ -157,4 +177,21 @@ pub fn kept() {
     for (name, row) in &rows {
         load(name, &stored(row));
     }
+}
+
+/// Imports and exports of listings.
+pub fn listed() {
+    let [whole, thirteenths] = [data::whole(&data::in_turn(&[64])), data::thirteenths()];
+    let most_divisions = data::most_divisions_fractions();
+    print::title("import, ns a call", &COLUMNS);
+    import("64 trains (i, 64, 1)", &listing(&whole));
+    import("64 trains in thirteenths", &listing(&thirteenths));
+    import("64 trains of Fibonacci's fractions, the most divisions", &listing(&most_divisions));
+    import("the longest text: the same 64 trains behind zeros", &data::longest_text(&listing(&most_divisions)));
+    import("refused: 5457 trains, the most records", &data::most_records());
+    print::title("export, ns a call", &COLUMNS);
+    export("64 trains (i, 64, 1)", &whole, LONGEST_EXPORT);
+    export("the same in a buffer without a byte more", &whole, listing(&whole).len());
+    export("64 trains in thirteenths, unreduced", &thirteenths, LONGEST_EXPORT);
+    export("64 trains of Fibonacci's fractions, the most divisions", &most_divisions, LONGEST_EXPORT);
 }

@@ -3,7 +3,7 @@
 use super::verdict::verdict;
 use super::{handed, Refusal};
 
-fn digits(mut n: u64) -> usize {
+pub fn digits(mut n: u64) -> usize {
     let mut digits = 1;
     while n >= 10 {
         n /= 10;
@@ -13,7 +13,7 @@ fn digits(mut n: u64) -> usize {
 }
 
 /// Writes the digits of n so that they end where `out` ends, and hands back what is in front of them.
-fn put_decimal(out: &mut [u8], mut n: u64) -> &mut [u8] {
+pub fn put_decimal(out: &mut [u8], mut n: u64) -> &mut [u8] {
     let mut at = out.len();
     loop {
         at -= 1;

@@ -3,6 +3,7 @@
 
 mod dispatcher;
 mod line;
+mod listing;
 mod numbers;
 mod stored;
 mod verdict;
@@ -12,6 +13,7 @@ use crate::proved::{code, header};
 
 pub use dispatcher::Dispatcher;
 pub use line::line;
+pub use listing::{export, import};
 pub use numbers::common_divisor;
 pub use stored::{judge_stored, load, save};
 pub use verdict::judge;
@@ -26,6 +28,7 @@ struct Refusal {
 
 impl Refusal {
     const TRAIN_COUNT: Refusal = Refusal::of_none(header::REFUSAL_TRAIN_COUNT);
+    const TEXT_TOO_LONG: Refusal = Refusal::of_none(header::REFUSAL_TEXT_TOO_LONG);
     const BUFFER_TOO_SHORT: Refusal = Refusal::of_none(header::REFUSAL_BUFFER_TOO_SHORT);
     const WRONG_MARK: Refusal = Refusal::of_none(header::REFUSAL_WRONG_MARK);
     const WRONG_VERSION: Refusal = Refusal::of_none(header::REFUSAL_WRONG_VERSION);
