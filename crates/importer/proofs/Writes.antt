@@ -12,9 +12,12 @@ use Rattle.lent.specs.Lent.{over, fitted}
 use Rattle.lent.proofs.Over.{fitted-room}
 use Rattle.lent.proofs.Records.{Writing, writing-begins, writing-on, writing-ends}
 use Rattle.decimal.specs.Answer.{nothing}
+use Rattle.fraction.specs.declared.Fraction.{Fraction}
+use Rattle.fraction.specs.Answer.{lowest}
 use Rattle.table.specs.declared.Entry.{Entry}
 use Rattle.table.specs.Row.{numbers, noEntry, numbersOf, rowOf, lowestEntry}
 use Rattle.table.proofs.Rows.{lowest-at}
+use Rattle.listing.specs.Means.{entry}
 use Rattle.listing.specs.Answer.{entryIn, Listed, bad, trains, oneMore, entriesFrom, trainsOf}
 use Rattle.listing.proofs.Texts.{entriesIn, entries-bad, entries-on, never, trains-are}
 use Rattle.importer.specs.declared.Train.{Train}
@@ -47,6 +50,11 @@ module _ (es : List Entry) (i : ℕ) (a : Entry) (fs : List Entry) (e : drop i e
 
   one-behind : drop (i + 1) es ≡ fs
   one-behind = sym (drop-drop 1 i es) ∙ ap (drop 1) e
+
+-- three times in lowest terms are a train in lowest terms
+pub lowest-three :
+    (e : Entry) (f g h : Fraction) → f ≡ lowest (e .phase) → g ≡ lowest (e .period) → h ≡ lowest (e .duration) → entry f g h ≡ lowestEntry e
+lowest-three e f g h p q r = λ i. entry (p i) (q i) (r i)
 
 -- ---- The loop over the trains
 
