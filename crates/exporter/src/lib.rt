@@ -26,12 +26,12 @@ const HEADING_LENGTH: usize = 23;
 fn time_width(time: Fraction) -> usize
     ensures { λ r. ⌜ (r ≡ length (timeText (lowest time))) × (r ≤ 41) ⌝ }
 {
-    let reduced = time.lowest();
-    let above = decimal::width(reduced.numerator as u64);
-    if reduced.denominator == 1 {
+    let terms = time.lowest();
+    let above = decimal::width(terms.numerator as u64);
+    if terms.denominator == 1 {
         return above;
     }
-    above + 1 + decimal::width(reduced.denominator as u64)
+    above + 1 + decimal::width(terms.denominator as u64)
 }
 
 // How many bytes the record of a train has in lowest terms, with its end.

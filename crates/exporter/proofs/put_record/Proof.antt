@@ -56,12 +56,8 @@ slice-write-text-3 c =
     let second = third .before .before .before .before in
     let first = second .before .before .before .before in
     let start = first .before .before .before in
-    omega (
-      arith,
-      line-length (lowestEntry (start .args .entry)),
-      simp length-set at (second .put-time2 .kept .1 .0),
-      simp length-set at (third .put-time3 .kept .1 .0),
-    )
+    let kept = simp length-set at (third .put-time3 .kept .1 .0) in
+    omega (arith, line-length (lowestEntry (start .args .entry)), simp length-set at (second .put-time2 .kept .1 .0), kept)
 
 add-text : tie.Need-add-text
 add-text c =
@@ -77,13 +73,8 @@ slice-write-text-4 c =
     let second = third .before .before .before .before in
     let first = second .before .before .before .before in
     let start = first .before .before .before in
-    simp length-set
-    (omega (
-      arith,
-      line-length (lowestEntry (start .args .entry)),
-      simp length-set at (second .put-time2 .kept .1 .0),
-      simp length-set at (third .put-time3 .kept .1 .0),
-    ))
+    let kept = simp length-set at (third .put-time3 .kept .1 .0) in
+    simp length-set (omega (arith, line-length (lowestEntry (start .args .entry)), simp length-set at (second .put-time2 .kept .1 .0), kept))
 
 add-result : tie.Need-add-result
 add-result c =
@@ -98,13 +89,8 @@ same-length c =
     let third = c .before .before in
     let second = third .before .before .before .before in
     let first = second .before .before .before .before in
-    simp length-set
-    (omega (
-      arith,
-      first .put-time .kept .1 .0,
-      simp length-set at (second .put-time2 .kept .1 .0),
-      simp length-set at (third .put-time3 .kept .1 .0),
-    ))
+    let kept = simp length-set at (third .put-time3 .kept .1 .0) in
+    simp length-set (omega (arith, first .put-time .kept .1 .0, simp length-set at (second .put-time2 .kept .1 .0), kept))
 
 returns : tie.Need-returns
 returns c =
