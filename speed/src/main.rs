@@ -1,6 +1,7 @@
 //! What the proved calls take, beside hand-written Rust of the same algorithm on the same data and buffers, beside a walk
 //! through the ticks, and beside what the processor's divisions take alone. `./urzabelki speed` builds and runs it; with
-//! the word `check` it only sees that all answer alike; `search SEED SECONDS` looks for accepted tables with many divisions.
+//! the word `check` it only sees that all answer alike; `search SEED SECONDS` looks for accepted tables with many divisions;
+//! `repeat proved|Rust ROW CALLS` makes so many calls and measures nothing.
 
 mod by_hand;
 mod clock;
@@ -26,6 +27,10 @@ fn main() {
     if let [command, seed, seconds] = &words[..] {
         assert_eq!(command, "search", "speed [check | search SEED SECONDS]");
         return search::climb(seed.parse().expect("a seed"), seconds.parse().expect("seconds"));
+    }
+    if let [command, side, row, calls] = &words[..] {
+        assert_eq!(command, "repeat", "speed repeat proved|Rust ROW CALLS");
+        return tables::repeated(side, row.parse().expect("a row"), calls.parse().expect("calls"));
     }
     measure();
 }

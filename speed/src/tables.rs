@@ -179,19 +179,58 @@ pub fn kept() {
     }
 }
 
+/// The listings that are imported.
+fn imports() -> [(&'static str, Vec<u8>); 5] {
+    let most_divisions = listing(&data::most_divisions_fractions());
+    [
+        ("64 trains (i, 64, 1)", listing(&data::whole(&data::in_turn(&[64])))),
+        ("64 trains in thirteenths", listing(&data::thirteenths())),
+        ("the longest text: 64 trains of Fibonacci's fractions behind zeros", data::longest_text(&most_divisions)),
+        ("64 trains of Fibonacci's fractions, the most divisions", most_divisions),
+        ("refused: 5457 trains, the most records", data::most_records()),
+    ]
+}
+
+/// The rows that are exported, each to a buffer of so many bytes.
+fn exports() -> [(&'static str, Vec<u32>, usize); 4] {
+    let whole = data::whole(&data::in_turn(&[64]));
+    let length = listing(&whole).len();
+    [
+        ("64 trains (i, 64, 1)", whole.clone(), LONGEST_EXPORT),
+        ("the same in a buffer without a byte more", whole, length),
+        ("64 trains in thirteenths, unreduced", data::thirteenths(), LONGEST_EXPORT),
+        ("64 trains of Fibonacci's fractions, the most divisions", data::most_divisions_fractions(), LONGEST_EXPORT),
+    ]
+}
+
 /// Imports and exports of listings.
 pub fn listed() {
-    let [whole, thirteenths] = [data::whole(&data::in_turn(&[64])), data::thirteenths()];
-    let most_divisions = data::most_divisions_fractions();
     print::title("import, ns a call", &COLUMNS);
-    import("64 trains (i, 64, 1)", &listing(&whole));
-    import("64 trains in thirteenths", &listing(&thirteenths));
-    import("64 trains of Fibonacci's fractions, the most divisions", &listing(&most_divisions));
-    import("the longest text: the same 64 trains behind zeros", &data::longest_text(&listing(&most_divisions)));
-    import("refused: 5457 trains, the most records", &data::most_records());
+    for (name, text) in &imports() {
+        import(name, text);
+    }
     print::title("export, ns a call", &COLUMNS);
-    export("64 trains (i, 64, 1)", &whole, LONGEST_EXPORT);
-    export("the same in a buffer without a byte more", &whole, listing(&whole).len());
-    export("64 trains in thirteenths, unreduced", &thirteenths, LONGEST_EXPORT);
-    export("64 trains of Fibonacci's fractions, the most divisions", &most_divisions, LONGEST_EXPORT);
+    for (name, row, room) in &exports() {
+        export(name, row, *room);
+    }
+}
+
+/// So many calls of one side for one of these rows, counted from 0, the imports first; for whoever counts their instructions.
+pub fn repeated(side: &str, number: usize, calls: u64) {
+    let is_proved = side == "proved";
+    let (imports, exports) = (imports(), exports());
+    let (title, sum) = match imports.get(number) {
+        Some((name, text)) if is_proved => (format!("import, {name}"), writes(proved::import, text, NUMBER, LONGEST_ROW)(calls)),
+        Some((name, text)) => (format!("import, {name}"), writes(by_hand::import, text, NUMBER, LONGEST_ROW)(calls)),
+        None => {
+            let (name, row, room) = &exports[number - imports.len()];
+            let batch = |calls| match is_proved {
+                true => writes(proved::export, row, BYTE, *room)(calls),
+                false => writes(by_hand::export, row, BYTE, *room)(calls),
+            };
+            (format!("export, {name}"), batch(calls))
+        }
+    };
+    black_box(sum);
+    println!("{title}");
 }
