@@ -49,6 +49,16 @@ unfolding decimal
 decimal-more n h =
     ap (λ (ds : List ℕ). ds ++ (digit (n % 10) ∷ [])) (leading-decimal n (n / 10) (omega arith) (omega arith))
 
+-- the last digit, and those before it, which are the notation of n / 10 where there are any
+pub decimal-last :
+    (n : ℕ) → (ds : List ℕ) × (decimal n ≡ ds ++ (digit (n % 10) ∷ [])) × (0 < length ds → ds ≡ decimal (n / 10))
+decimal-last n =
+    ⊎-elim
+    (λ (z : n / 10 ≡ 0).
+    ([], decimal-one n (omega arith) ∙ ap (λ (m : ℕ). digit m ∷ []) (omega arith), λ h. absurd (omega arith)))
+    (λ (p : 0 < n / 10). (decimal (n / 10), decimal-more n (omega arith), λ h. refl))
+    (eq-zero-or-pos (n / 10))
+
 -- What holds of the numbers of one digit, and of n where it holds of n / 10, holds of every number.
 module _ (P : ℕ → Type 0) (one : (n : ℕ) → n < 10 → P n) (step : (n : ℕ) → 10 ≤ n → P (n / 10) → P n) where
   below : (f n : ℕ) → n ≤ f → P n

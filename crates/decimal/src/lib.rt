@@ -28,20 +28,18 @@ pub fn width(n: u64) -> usize
     width(n / 10) + 1
 }
 
-// Writes the digits of n at `at`, and answers where they end. It calls itself for all digits but the last, since the
-// last is the one that division finds first.
-fn put_digits(n: u64, out: &mut [u8], at: usize) -> usize
-    requires { ⌜ at + length (decimal n) ≤ length (now out) ⌝ }
-    ensures end { λ r. ⌜ r ≡ at + length (decimal n) ⌝ }
-    ensures bytes { λ _. ⌜ now (out .exit) ≡ over (now (out .entry)) at (decimal n) ⌝ }
+// Writes the digits of n from `at` to `end`, the last first, since it is the one that division finds first.
+fn put_digits(n: u64, out: &mut [u8], at: usize, end: usize)
+    requires { ⌜ (at + length (decimal n) ≡ end) × (end ≤ length (now out)) ⌝ }
+    ensures { λ _. ⌜ now (out .exit) ≡ over (now (out .entry)) at (decimal n) ⌝ }
 {
-    if n < 10 {
-        out[at] = b'0' + n as u8;
-        return at + 1;
+    let mut left = n;
+    let mut place = end;
+    while at < place {
+        place -= 1;
+        out[place] = b'0' + (left % 10) as u8;
+        left /= 10;
     }
-    let last = put_digits(n / 10, out, at);
-    out[last] = b'0' + (n % 10) as u8;
-    last + 1
 }
 
 // Writes the decimal notation of n at `at`, and answers where it ends. Without room for all of it nothing is written, and
@@ -53,10 +51,13 @@ pub fn put(n: u64, out: &mut [u8], at: usize) -> usize
     if out.len() < at {
         return at;
     }
-    if out.len() - at < width(n) {
+    let taken = width(n);
+    if out.len() - at < taken {
         return at;
     }
-    put_digits(n, out, at)
+    let end = at + taken;
+    put_digits(n, out, at, end);
+    end
 }
 
 // Whether a byte is one of the digits 0 to 9.
