@@ -36,7 +36,7 @@ use Rattle.listing.proofs.Exporting.{exporting, export-written, way-wri
 -- ---- Lowest terms
 
 -- a row of whole trains passes just what it passes in lowest terms
-checked-lowest : (row : List ℕ) → numbers ∣ length row → checked (lowestRow row) ≡ checked row
+pub checked-lowest : (row : List ℕ) → numbers ∣ length row → checked (lowestRow row) ≡ checked row
 unfolding checked
 checked-lowest row divides =
     let same : length (lowestRow row) ≡ length row = sym (lowest-row-same row divides .lengths) in
@@ -46,7 +46,7 @@ checked-lowest row divides =
     orElse (test (not (eqb (same i % numbers) 0)) TrainCount) (orElse (test (ltb longestRow (same i)) TrainCount) (trains i))
 
 -- lowest terms of lowest terms are the same
-lowest-again : (es : List Entry) → map lowestEntry (map lowestEntry es) ≡ map lowestEntry es
+pub lowest-again : (es : List Entry) → map lowestEntry (map lowestEntry es) ≡ map lowestEntry es
 lowest-again [] = refl
 lowest-again (e ∷ es) =
     λ i.
