@@ -13,7 +13,7 @@ use borrow.Author.Tests.{lt-ltb, le-ltb}
 use Rattle.refusal.specs.declared.Refusal.{Refusal}
 use Rattle.refusal.specs.declared.Refusal.the-variants.{BufferTooShort}
 use Rattle.refusal.specs.Paper.{Said, paper, answers, refuse}
-use Rattle.refusal.specs.Order.{None, Gives, refusalsOf, atEach}
+use Rattle.refusal.specs.Order.{Check, None, Gives, refusalsOf, atEach}
 use Rattle.refusal.proofs.Orders.{none-of-both}
 use Rattle.refusal.proofs.Answers.{Tells, gives-exactly, refusing-only, answers-not-refuse, answers-only, refusals-both}
 use Rattle.decimal.specs.Answer.{leadingWithin, decimal}
@@ -85,22 +85,28 @@ after-length : (o : Outcome) (n k : ℕ) → (exportedAfter o n ≡ exports.Leng
 after-length outcomes.Passed n k = ((λ e. (refl, cc)), (λ e. ap exports.Length (e .1)))
 after-length (outcomes.Refused q) n k = ((λ e. absurd (zero-not-one cc)), (λ e. absurd (refused-not-passed q (e .0))))
 
+-- an answer after checks that follow an order has a number and a train exactly when the order gives them, and a value where none holds
+module _ (o : Outcome) (order : List Check) (follows : Follows o order) (value : ℕ) where
+  pub exported-gives : (number train : ℕ) → (paperExported (exportedAfter o value) ≡ refuse number train) ↔ Gives order number train
+  exported-gives =
+      gives-exactly paperExported exports.Refused refuse exported-tells order (exportedAfter o value)
+      (λ r. Iff·trans (after-refused o value r) (follows .refused r))
+
+  pub exported-answers : (n : ℕ) → (paperExported (exportedAfter o value) ≡ answers n) ↔ (None order × (n ≡ value))
+  exported-answers n =
+      Iff·trans (exported-is (exportedAfter o value) n)
+      (Iff·trans (after-length o value n) ((λ w. (follows .passed .0 (w .0), sym (w .1))), (λ w. (follows .passed .1 (w .0), sym (w .1)))))
+
 pub export-refused :
     (row : List ℕ) (room number train : ℕ) →
     (paperExported (exported row room) ≡ refuse number train) ↔ Gives (exportOrder row room) number train
-export-refused row room =
-    gives-exactly paperExported exports.Refused refuse exported-tells (exportOrder row room) (exported row room)
-    (λ r. Iff·trans (after-refused (exportCheck row room) _ r) (export-follows row room .refused r))
+export-refused row room = exported-gives (exportCheck row room) (exportOrder row room) (export-follows row room) _
 
 pub export-answers :
     (row : List ℕ) (room n : ℕ) →
     (paperExported (exported row room) ≡ answers n)
     ↔ (None (exportOrder row room) × (n ≡ length (textOf (map lowestEntry (entries row)))))
-export-answers row room n =
-    let passed = export-follows row room .passed in
-    Iff·trans (exported-is (exported row room) n)
-    (Iff·trans (after-length (exportCheck row room) _ n)
-    ((λ w. (passed .0 (w .0), sym (w .1))), (λ w. (passed .1 (w .0), sym (w .1)))))
+export-answers row room = exported-answers (exportCheck row room) (exportOrder row room) (export-follows row room) _
 
 -- ---- What it leaves in the buffer
 
