@@ -142,7 +142,7 @@ module _ (bs : List ℕ) (room : ℕ) where
   list-refused = exported-gives _ (listOrder bs room) list-follows _
 
   -- where none holds the length of the text is answered
-  list-none :
+  pub list-none :
       (n : ℕ) → (paperExported (listAnswer bs room) ≡ answers n) ↔ (None (listOrder bs room) × (n ≡ length (textOf (trainsIn bs))))
   unfolding listAnswer
   list-none = exported-answers _ (listOrder bs room) list-follows _
