@@ -91,6 +91,11 @@ list-leaves bs before es (exports.Refused r) stored = refl
 
 -- ---- The ways through the call
 
+-- a refusal leaves what there was
+pub list-refused-leaves : (bs before : List ℕ) (r : Refusal) → before ≡ listLeaves (exports.Refused r) bs before
+unfolding listLeaves
+list-refused-leaves bs before r = refl
+
 -- a refusal of loading is handed on
 list-unloaded : (bs : List ℕ) (room : ℕ) (r : Refusal) → loaded bs longestRow ≡ loads.Refused r → listAnswer bs room ≡ exports.Refused r
 unfolding listAnswer
@@ -100,33 +105,33 @@ list-unloaded bs room r e =
     (loaded-refused (loadCheck bs longestRow) (countIn bs) r .0 e)
 
 module _ (bs : List ℕ) (answer : Loaded) (answer-is : answer ≡ loaded bs longestRow) where
-  pub list-stops :
-      (before : List ℕ) (r : Refusal) → answer ≡ loads.Refused r →
-      (exports.Refused r ≡ listAnswer bs (length before)) × (before ≡ listLeaves (exports.Refused r) bs before)
-  unfolding listLeaves
-  list-stops before r h = (sym (list-unloaded bs (length before) r (sym answer-is ∙ h)), refl)
+  pub list-stops : (room : ℕ) (r : Refusal) → answer ≡ loads.Refused r → exports.Refused r ≡ listAnswer bs room
+  list-stops room r h = sym (list-unloaded bs room r (sym answer-is ∙ h))
 
   module _ (k : ℕ) (counted : answer ≡ loads.Count k) where
     -- what was loaded is a part of the row
     pub list-within : k * numbers ≤ longestRow
     list-within = accepted bs longestRow k (sym answer-is ∙ counted) .fits
 
-    pub list-exports :
-        (start row before now : List ℕ) (x : Exported) → Bytes bs → row ≡ loadedIn answer bs start →
-        x ≡ exported (take (k * numbers - 0) row) (length before) → now ≡ exportedIn x (take (k * numbers - 0) row) before →
-        (x ≡ listAnswer bs (length before)) × (now ≡ listLeaves x bs before)
-    list-exports start row before now x bytes row-is x-is now-is =
-        let a = accepted bs longestRow k (sym answer-is ∙ counted) in
-        let es : List Entry = trainsIn bs in
-        let stored = accepted-stored bs longestRow k bytes a .0 in
-        let all : k * numbers - 0 ≡ k * numbers = omega arith in
-        let front : take (k * numbers - 0) row ≡ rowOf es =
-        ap (λ (n : ℕ). take n row) all
-        ∙ ap (take (k * numbers)) (row-is ∙ ap (λ (l : Loaded). loadedIn l bs start) counted)
-        ∙ accepted-row bs start longestRow k a in (
-          x-is ∙ ap (λ (l : List ℕ). exported l (length before)) front ∙ list-trains bs es (length before) stored,
-          now-is ∙ ap (λ (l : List ℕ). exportedIn x l before) front ∙ list-leaves bs before es x stored,
-        )
+    module _ (bytes : Bytes bs) (start row : List ℕ) (row-is : row ≡ loadedIn answer bs start) where
+      stored : StoredAs bs (trainsIn bs)
+      stored = accepted-stored bs longestRow k bytes (accepted bs longestRow k (sym answer-is ∙ counted)) .0
+
+      -- it is the row of the trains
+      front : take (k * numbers - 0) row ≡ rowOf (trainsIn bs)
+      front =
+          let all : k * numbers - 0 ≡ k * numbers = omega arith in
+          ap (λ (n : ℕ). take n row) all
+          ∙ ap (take (k * numbers)) (row-is ∙ ap (λ (l : Loaded). loadedIn l bs start) counted)
+          ∙ accepted-row bs start longestRow k (accepted bs longestRow k (sym answer-is ∙ counted))
+
+      pub list-exports : (room : ℕ) (x : Exported) → x ≡ exported (take (k * numbers - 0) row) room → x ≡ listAnswer bs room
+      list-exports room x x-is = x-is ∙ ap (λ (l : List ℕ). exported l room) front ∙ list-trains bs (trainsIn bs) room stored
+
+      pub list-puts :
+          (before now : List ℕ) (x : Exported) → now ≡ exportedIn x (take (k * numbers - 0) row) before → now ≡ listLeaves x bs before
+      list-puts before now x now-is =
+          now-is ∙ ap (λ (l : List ℕ). exportedIn x l before) front ∙ list-leaves bs before (trainsIn bs) x stored
 
 -- ---- Refusals
 
@@ -147,12 +152,10 @@ module _ (bs : List ℕ) (room : ℕ) where
   unfolding listAnswer
   list-none = exported-answers _ (listOrder bs room) list-follows _
 
--- a refusal leaves what there was
 refusal-keeps :
     (x : Exported) (bs before : List ℕ) (number train : ℕ) → paperExported x ≡ refuse number train → listLeaves x bs before ≡ before
-unfolding listLeaves
 refusal-keeps (exports.Length n) bs before number train e = absurd (answers-not-refuse e)
-refusal-keeps (exports.Refused r) bs before number train e = refl
+refusal-keeps (exports.Refused r) bs before number train e = sym (list-refused-leaves bs before r)
 
 pub list-keeps :
     (bs before : List ℕ) (number train : ℕ) →

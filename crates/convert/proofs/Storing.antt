@@ -40,6 +40,7 @@ use Rattle.listing.specs.declared.Imported.{Imported}
 use Rattle.listing.specs.declared.Imported.the-variants as imports
 use Rattle.listing.specs.Means.{Listing, BadAt}
 use Rattle.listing.specs.Layout.{longestText}
+use Rattle.listing.specs.Given.{tableOrder}
 use Rattle.listing.specs.Paper.{paperImported}
 use Rattle.listing.specs.Answer.{Listed, bad, trains, listed, trainsOf, tableCheck, importedAfter, importedOf, imported, importedIn}
 use Rattle.listing.proofs.Texts.{read-listed, listing-read, read-bad, bad-read}
@@ -114,41 +115,53 @@ store-leaves text before es (saves.Refused r) e = refl
 
 -- ---- The ways through the call
 
+-- a refusal leaves what there was
+pub store-refused-leaves : (text before : List ℕ) (r : Refusal) → before ≡ storeLeaves (saves.Refused r) text before
+unfolding storeLeaves
+store-refused-leaves text before r = refl
+
 module _ (text : List ℕ) (answer : Imported) (answer-is : answer ≡ imported text longestRow) where
-  pub store-stops :
-      (before : List ℕ) (r : Refusal) → answer ≡ imports.Refused r →
-      (saves.Refused r ≡ storeAnswer text (length before)) × (before ≡ storeLeaves (saves.Refused r) text before)
-  unfolding storeAfter storeLeaves
-  store-stops before r h = (sym (ap (λ (a : Imported). storeAfter a (length before)) (sym answer-is ∙ h)), refl)
+  pub store-stops : (room : ℕ) (r : Refusal) → answer ≡ imports.Refused r → saves.Refused r ≡ storeAnswer text room
+  unfolding storeAfter
+  store-stops room r h = sym (ap (λ (a : Imported). storeAfter a room) (sym answer-is ∙ h))
 
   module _ (k : ℕ) (counted : answer ≡ imports.Count k) where
+    -- the text lists trains, as many as were counted
+    lists : (length text ≤ longestText) × ((es : List Entry) × Listing text es × None (tableOrder es longestRow) × (k ≡ length es))
+    lists = import-answers text longestRow k .0 (ap paperImported (sym answer-is ∙ counted))
+
     -- what was imported is a part of the row
     pub store-within : k * numbers ≤ longestRow
     store-within = omega (arith, import-few text longestRow k (ap paperImported (sym answer-is ∙ counted)))
 
-    pub store-saves :
-        (start row before now : List ℕ) (s : Saved) → row ≡ importedIn answer text start →
-        s ≡ saved (take (k * numbers - 0) row) (length before) → now ≡ savedIn s (take (k * numbers - 0) row) before →
-        (s ≡ storeAnswer text (length before)) × (now ≡ storeLeaves s text before)
-    unfolding importedIn
-    store-saves start row before now s row-is s-is now-is =
-        let found = import-answers text longestRow k .0 (ap paperImported (sym answer-is ∙ counted)) in
-        let es : List Entry = found .1 .0 in
-        let are : trainsOf (listed text) ≡ es = ap trainsOf (listing-read text es (found .1 .1)) in
-        let long : length (rowOf (map lowestEntry es)) ≡ k * numbers =
-        row-length (map lowestEntry es) ∙ ap (λ (n : ℕ). n * numbers) (length-map es lowestEntry ∙ sym (found .1 .3)) in
-        let all : k * numbers - 0 ≡ k * numbers = omega arith in
-        let front : take (k * numbers - 0) row ≡ rowOf (map lowestEntry es) =
-        ap (λ (n : ℕ). take n row) all
-        ∙ ap (take (k * numbers)) (row-is ∙ ap (λ (a : Imported). importedIn a text start) counted)
-        ∙ ap (λ (fs : List Entry). take (k * numbers) (rowOf (map lowestEntry fs) ++ drop (k * numbers) start)) are
-        ∙ take-at (rowOf (map lowestEntry es)) (drop (k * numbers) start) (k * numbers) long in (
+    trains-are : trainsOf (listed text) ≡ lists .1 .0
+    trains-are = ap trainsOf (listing-read text (lists .1 .0) (lists .1 .1))
+
+    module _ (start row : List ℕ) (row-is : row ≡ importedIn answer text start) where
+      -- it is the row of the trains in lowest terms
+      front : take (k * numbers - 0) row ≡ rowOf (map lowestEntry (lists .1 .0))
+      unfolding importedIn
+      front =
+          let es : List Entry = lists .1 .0 in
+          let long : length (rowOf (map lowestEntry es)) ≡ k * numbers =
+          row-length (map lowestEntry es) ∙ ap (λ (n : ℕ). n * numbers) (length-map es lowestEntry ∙ sym (lists .1 .3)) in
+          let all : k * numbers - 0 ≡ k * numbers = omega arith in
+          ap (λ (n : ℕ). take n row) all
+          ∙ ap (take (k * numbers)) (row-is ∙ ap (λ (a : Imported). importedIn a text start) counted)
+          ∙ ap (λ (fs : List Entry). take (k * numbers) (rowOf (map lowestEntry fs) ++ drop (k * numbers) start)) trains-are
+          ∙ take-at (rowOf (map lowestEntry es)) (drop (k * numbers) start) (k * numbers) long
+
+      pub store-saves : (room : ℕ) (s : Saved) → s ≡ saved (take (k * numbers - 0) row) room → s ≡ storeAnswer text room
+      store-saves room s s-is =
           s-is
-              ∙ ap (λ (l : List ℕ). saved l (length before)) front
-              ∙ saved-same es (length before)
-              ∙ sym (store-lists text es (length before) (found .0) (found .1 .1)),
-          now-is ∙ ap (λ (l : List ℕ). savedIn s l before) front ∙ store-leaves text before es s are,
-        )
+          ∙ ap (λ (l : List ℕ). saved l room) front
+          ∙ saved-same (lists .1 .0) room
+          ∙ sym (store-lists text (lists .1 .0) room (lists .0) (lists .1 .1))
+
+      pub store-puts :
+          (before now : List ℕ) (s : Saved) → now ≡ savedIn s (take (k * numbers - 0) row) before → now ≡ storeLeaves s text before
+      store-puts before now s now-is =
+          now-is ∙ ap (λ (l : List ℕ). savedIn s l before) front ∙ store-leaves text before (lists .1 .0) s trains-are
 
 -- ---- What a text has to say
 
@@ -213,12 +226,10 @@ pub store-refused :
     (paperSaved (storeAnswer text room) ≡ refuse number place) ↔ StoreRefuses text room number place
 store-refused text room number place = (refused-says text room number place, says-refused)
 
--- a refusal leaves what there was
 refusal-keeps :
     (s : Saved) (text before : List ℕ) (number place : ℕ) → paperSaved s ≡ refuse number place → storeLeaves s text before ≡ before
-unfolding storeLeaves
 refusal-keeps (saves.Length n) text before number place e = absurd (answers-not-refuse e)
-refusal-keeps (saves.Refused r) text before number place e = refl
+refusal-keeps (saves.Refused r) text before number place e = sym (store-refused-leaves text before r)
 
 pub store-keeps :
     (text before : List ℕ) (number place : ℕ) →

@@ -1,7 +1,7 @@
 -- `list` meets its contract: a refusal of loading, or what is exported from the row that was loaded.
 -- Assumes nothing.
 use native.Mathlib.Omega.{arith}
-use Rattle.convert.proofs.Listings.{list-stops, list-within, list-exports}
+use Rattle.convert.proofs.Listings.{list-refused-leaves, list-stops, list-within, list-exports, list-puts}
 use borrow.Author.Needs.{needs}
 use Rattle.convert.proofs.list.Statement.{statement}
 use Rattle.convert.proofs.list.Tie as tie
@@ -36,7 +36,10 @@ export-requires : tie.Need-export-requires
 export-requires c κs = search needs
 
 returns : tie.Need-returns
-returns c = list-stops _ _ (c .before .before .before .before .load .ensures .0) _ _ (c .before .loaded .given .1)
+returns c = (
+  list-stops _ _ (c .before .before .before .before .load .ensures .0) _ _ (c .before .loaded .given .1),
+  list-refused-leaves _ _ _,
+)
 
 same-length : tie.Need-same-length
 same-length c = search needs
@@ -46,8 +49,10 @@ returns-2 c =
     let matched = c .before .before .before .before .before .before .before in
     let known = matched .before .before .before .before .before .before .shared-slice-known .given in
     let read = matched .before .before .before .load .ensures in
-    let written = c .before .before .export .ensures in
-    list-exports _ _ (read .0) _ (matched .loaded2 .given .1) _ _ _ _ _ (λ i. known i .fits) (read .1) (written .0) (written .1 .0)
+    let written = c .before .before .export .ensures in (
+      list-exports _ _ (read .0) _ (matched .loaded2 .given .1) (λ i. known i .fits) _ _ (read .1) _ _ (written .0),
+      list-puts _ _ (read .0) _ (matched .loaded2 .given .1) (λ i. known i .fits) _ _ (read .1) _ _ _ (written .1 .0),
+    )
 
 pub list-spec : {M : Type 1} → statement M
 list-spec =

@@ -1,7 +1,7 @@
 -- `store` meets its contract: a refusal of import, or what is saved from the row that was imported.
 -- Assumes nothing.
 use native.Mathlib.Omega.{arith}
-use Rattle.convert.proofs.Storing.{store-stops, store-within, store-saves}
+use Rattle.convert.proofs.Storing.{store-refused-leaves, store-stops, store-within, store-saves, store-puts}
 use borrow.Author.Needs.{needs}
 use Rattle.convert.proofs.store.Statement.{statement}
 use Rattle.convert.proofs.store.Tie as tie
@@ -36,7 +36,10 @@ save-requires : tie.Need-save-requires
 save-requires c κs = search needs
 
 returns : tie.Need-returns
-returns c = store-stops _ _ (c .before .before .before .before .import .ensures .0) _ _ (c .before .imported .given .1)
+returns c = (
+  store-stops _ _ (c .before .before .before .before .import .ensures .0) _ _ (c .before .imported .given .1),
+  store-refused-leaves _ _ _,
+)
 
 same-length : tie.Need-same-length
 same-length c = search needs
@@ -45,8 +48,10 @@ returns-2 : tie.Need-returns-2
 returns-2 c =
     let matched = c .before .before .before .before .before .before .before in
     let read = matched .before .before .before .import .ensures in
-    let written = c .before .before .save .ensures in
-    store-saves _ _ (read .0) _ (matched .imported2 .given .1) _ _ _ _ _ (read .1 .0) (written .0) (written .1 .0)
+    let written = c .before .before .save .ensures in (
+      store-saves _ _ (read .0) _ (matched .imported2 .given .1) _ _ (read .1 .0) _ _ (written .0),
+      store-puts _ _ (read .0) _ (matched .imported2 .given .1) _ _ (read .1 .0) _ _ _ (written .1 .0),
+    )
 
 pub store-spec : {M : Type 1} → statement M
 store-spec =
