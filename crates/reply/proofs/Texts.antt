@@ -7,12 +7,12 @@ use mathlib.Core.Bool.{cond}
 use mathlib.Core.List.{List, [], _∷_}
 use native.Mathlib.Omega.{arith}
 use lib.Dec.{eqb}
-use lib.ListN.{length, getD, drop, length-append}
+use lib.ListN.{length, getD, drop}
 use Rattle.decimal.proofs.Notation.{decimal-u64, decimal-u32}
 use Rattle.line.specs.Answer.{numbers, refuseWord}
 use Rattle.line.proofs.Lines.{numbers-length, none-length, two-length}
 use Rattle.line.proofs.Reading.{numbers-tell}
-use Rattle.reply.specs.Lines.{Shown, fresh, place, withdrawn, idle, starts, goes-on, refuse, bad, placeWord, startsWord, goesOnWord, lineOf, Within, longest}
+use Rattle.reply.specs.Lines.{Shown, fresh, place, withdrawn, idle, starts, goes-on, refuse, bad, lineOf, Within, longest}
 
 -- ---- How long
 
