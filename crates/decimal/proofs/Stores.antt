@@ -8,10 +8,9 @@ use mathlib.Core.List.{List, [], _∷_, _++_, append-assoc, append-nil}
 use native.Mathlib.Omega.{arith}
 use lib.ListN.{length, set, length-append}
 use lib.Seq.{sets, set-comm}
-use borrow.Author.Tests.{lt-ltb, le-ltb}
-use Rattle.lent.specs.Lent.{over, fitted}
-use Rattle.lent.proofs.Over.{over-none, over-sets, fitted-room, fitted-short}
-use Rattle.decimal.specs.Answer.{digit, decimal, endIn}
+use Rattle.lent.specs.Lent.{over, fitted, endIn}
+use Rattle.lent.proofs.Over.{over-none, over-sets, fitted-room, fitted-short, end-short, end-room}
+use Rattle.decimal.specs.Answer.{digit, decimal}
 use Rattle.decimal.proofs.Notation.{decimal-last}
 
 -- ---- From the last digit to the first
@@ -87,14 +86,6 @@ backwards-ends l m n at left place h b = go (b .ahead) (b .there) (b .whole)
     go (d ∷ ds) t w = absurd (omega arith)
 
 -- ---- Whole or not at all
-
-pub end-short : (room at : ℕ) (text : List ℕ) → room < at + length text → endIn room at text ≡ at
-unfolding endIn
-end-short room at text h = simp (lt-ltb room (at + length text) h)
-
-pub end-room : (room at : ℕ) (text : List ℕ) → at + length text ≤ room → endIn room at text ≡ at + length text
-unfolding endIn
-end-room room at text h = simp (le-ltb room (at + length text) h)
 
 module _ (l text : List ℕ) (at : ℕ) where
   -- without room nothing is written

@@ -2,7 +2,6 @@
 --     digit n                  the byte of a digit
 --     leadingWithin most n     the digits of n, and none for 0, in at most that many digits
 --     decimal n                the decimal notation of n, whose length `width` answers
---     endIn room at text       where a text ends that is written at an index, if there is room for it; else that index
 --     isDigit b                whether a byte is a digit
 --     longer v b               the number v with one digit more
 --     Found A                  what was looked for at the front of a text, and the text behind it, or nothing
@@ -32,10 +31,6 @@ leadingWithin (suc most) (suc n) = leadingWithin most (suc n / 10) ++ (digit (su
 -- The last digit always stands, so that 0 is written `0`. There are no more digits before it than n counts.
 unfoldable pub decimal : ℕ → List ℕ
 decimal n = leadingWithin n (n / 10) ++ (digit (n % 10) ∷ [])
-
--- The end of a text that is written whole or not at all.
-unfoldable pub endIn : (room at : ℕ) (text : List ℕ) → ℕ
-endIn room at text = cond (ltb room (at + length text)) at (at + length text)
 
 -- Whether a byte is a digit.
 unfoldable pub isDigit : ℕ → Bool

@@ -3,8 +3,8 @@
 ghost use mathlib.Core.Path.{_≡_};
 ghost use Prim.Native.Nat.{_+_, _≤_, _<_, _^_};
 ghost use lib.ListN.{length, drop};
-ghost use Rattle.lent.specs.Lent.{over, fitted};
-ghost use Rattle.decimal.specs.Answer.{decimal, endIn, isDigit, digitsFrom, indexed, numberAt};
+ghost use Rattle.lent.specs.Lent.{over, fitted, endIn};
+ghost use Rattle.decimal.specs.Answer.{decimal, isDigit, digitsFrom, indexed, numberAt};
 ghost use Rattle.decimal.specs.Answer.{longer as Answer·longer};
 
 // What `read` answers.

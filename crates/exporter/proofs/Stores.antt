@@ -11,10 +11,9 @@ use lib.Dec.{leb}
 use lib.ListN.{length, getD, take, set, length-append, length-set}
 use lib.Seq.{take-suc, take-length, length-take-le}
 use borrow.Author.Tests.{eq-eqb, ne-eqb, le-leb, leb-true, leb-false, not-true, not-false}
-use Rattle.lent.specs.Lent.{over, fitted}
-use Rattle.lent.proofs.Over.{over-more, over-then, over-front, fitted-room}
-use Rattle.decimal.specs.Answer.{decimal, endIn}
-use Rattle.decimal.proofs.Stores.{end-room}
+use Rattle.lent.specs.Lent.{over, fitted, endIn}
+use Rattle.lent.proofs.Over.{over-more, over-then, over-front, fitted-room, end-room}
+use Rattle.decimal.specs.Answer.{decimal}
 use Rattle.fraction.specs.declared.Fraction.{Fraction}
 use Rattle.fraction.specs.Answer.{lowest}
 use Rattle.table.specs.declared.Entry.{Entry}

@@ -13,10 +13,9 @@ use lib.Dec.{leb}
 use lib.ListN.{length, take, drop, getD, set, length-append, length-set}
 use lib.Seq.{take-suc, take-length, length-take-le, drop-cons, drop-length}
 use borrow.Author.Tests.{le-leb, lt-leb}
-use Rattle.lent.specs.Lent.{over, fitted}
-use Rattle.lent.proofs.Over.{over-one, over-more, over-then, fitted-room}
-use Rattle.decimal.specs.Answer.{decimal, endIn}
-use Rattle.decimal.proofs.Stores.{end-room}
+use Rattle.lent.specs.Lent.{over, fitted, endIn}
+use Rattle.lent.proofs.Over.{over-one, over-more, over-then, fitted-room, end-room}
+use Rattle.decimal.specs.Answer.{decimal}
 use Rattle.line.specs.Answer.{space, newline, spaced, numbers}
 
 -- ---- A word
