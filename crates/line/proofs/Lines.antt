@@ -25,8 +25,8 @@ use Rattle.line.specs.declared.Written.{Written}
 use Rattle.line.specs.declared.Written.the-variants.{Length, Refused}
 use Rattle.line.specs.Text.{Within}
 use Rattle.line.specs.Answer.{numbers, textOf, acceptWord, collideWord, refuseWord, line, lineOf, longest, answerFor, bufferAfter, paperWritten, written, writtenIn}
-use Rattle.lent.specs.Lent.{over}
-use Rattle.lent.proofs.Over.{over-then}
+use Rattle.lent.specs.Lent.{over, fitted}
+use Rattle.lent.proofs.Over.{over-then, fitted-room}
 
 -- ---- How long
 
@@ -147,13 +147,13 @@ put-none text before at h = (sym (answer-none text at (length before) h), refl)
 -- a word, and the numbers behind it
 pub put-all :
     (word ns before m after : List ℕ) (at next end : ℕ) → at + length word ≡ next → end ≡ next + length (numbers ns) →
-    end ≤ length before → m ≡ over before at word → after ≡ over m next (numbers ns) →
+    end ≤ length before → m ≡ fitted before at word → after ≡ over m next (numbers ns) →
     (Length end ≡ answerFor (textOf word ns) at (length before)) × (after ≡ bufferAfter (Length end) (textOf word ns) at before)
 unfolding bufferAfter
 put-all word ns before m after at next end e f h w v =
     let whole : end ≡ at + length (textOf word ns) = omega (arith, length-append word (numbers ns)) in (
       ap Length whole ∙ sym (answer-room (textOf word ns) at (length before) (omega arith)),
-      v ∙ over-then before m word (numbers ns) at next (omega arith) e w,
+      v ∙ over-then before m word (numbers ns) at next (omega arith) e (w ∙ fitted-room before at word (omega arith)),
     )
 
 -- ---- The line of a verdict

@@ -10,31 +10,13 @@ use native.Mathlib.Nat.{eq-zero-or-pos}
 use native.Mathlib.Numerals.{add-one}
 use native.Mathlib.Omega.{arith}
 use lib.Dec.{leb}
-use lib.ListN.{length, take, drop, getD, set, length-append, length-set}
-use lib.Seq.{take-suc, take-length, length-take-le, drop-cons, drop-length}
+use lib.ListN.{length, drop, getD, set, length-append, length-set}
+use lib.Seq.{drop-cons, drop-length}
 use borrow.Author.Tests.{le-leb, lt-leb}
 use Rattle.lent.specs.Lent.{over, fitted, endIn}
-use Rattle.lent.proofs.Over.{over-one, over-more, over-then, fitted-room, end-room}
+use Rattle.lent.proofs.Over.{over-one, over-then, fitted-room, end-room}
 use Rattle.decimal.specs.Answer.{decimal}
 use Rattle.line.specs.Answer.{space, newline, spaced, numbers}
-
--- ---- A word
-
--- one letter more
-pub word-on :
-    (l m word : List ℕ) (at i : ℕ) → i < length word → at + length word ≤ length l →
-    m ≡ over l at (take i word) → set m (at + i) (getD word i 0) ≡ over l at (take (i + 1) word)
-word-on l m word at i h k w =
-    let t : length (take i word) ≡ i = length-take-le i word (omega arith) in
-    over-more l m (take i word) at (at + i) (getD word i 0) (omega arith) (omega arith) w
-    ∙ ap (over l at) (sym (ap (λ (n : ℕ). take n word) (add-one i) ∙ take-suc word i 0 h))
-
-pub word-ends :
-    (l m word : List ℕ) (at i : ℕ) → i ≤ length word → length word ≤ i →
-    m ≡ over l at (take i word) → m ≡ over l at word
-word-ends l m word at i h k w =
-    let e : i ≡ length word = omega arith in
-    w ∙ ap (λ (n : ℕ). over l at (take n word)) e ∙ ap (over l at) (take-length word)
 
 -- ---- Numbers
 

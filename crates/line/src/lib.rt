@@ -66,18 +66,6 @@ fn put_numbers(values: &[u64], out: &mut [u8], at: usize) -> usize
     next + 1
 }
 
-// Writes a word at `at`.
-fn put_word(word: &[u8], out: &mut [u8], at: usize)
-    requires { ⌜ at + length (now word) ≤ length (now out) ⌝ }
-    ensures { λ _. ⌜ now (out .exit) ≡ over (now (out .entry)) at (now (word .entry)) ⌝ }
-{
-    let mut i = 0;
-    while i < word.len() {
-        out[at + i] = word[i];
-        i += 1;
-    }
-}
-
 // Writes the line of a word and its numbers at `at`, and answers where it ends; what stands before and behind is kept.
 // A buffer without room for all of it there is refused, and keeps every byte.
 pub fn put(word: &[u8], values: &[u64], out: &mut [u8], at: usize) -> Written
@@ -94,7 +82,7 @@ pub fn put(word: &[u8], values: &[u64], out: &mut [u8], at: usize) -> Written
     if !fit(values, room - word.len()) {
         return Written::Refused(Refusal::BufferTooShort);
     }
-    put_word(word, out, at);
+    lent::put(word, out, at);
     let end = put_numbers(values, out, at + word.len());
     Written::Length(end)
 }

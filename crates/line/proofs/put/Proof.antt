@@ -41,8 +41,8 @@ returns-3 c =
     let short = numbers-short (length (numbers ns)) room (fit .fit .result) (fit .fit .ensures) (c .if3 .taken) in
     put-none (textOf word ns) _ _ (omega (arith, short, length-append word (numbers ns)))
 
-put-word-requires : tie.Need-put-word-requires
-put-word-requires c κs = search needs
+put-requires : tie.Need-put-requires
+put-requires c κs = search needs
 
 add-put-numbers : tie.Need-add-put-numbers
 add-put-numbers c = search needs
@@ -56,7 +56,7 @@ put-numbers-requires c κs =
     let ns = start .args .values .now in
     let room = length (start .args .out .now) - start .args .at - length (start .args .word .now) in
     let enough = numbers-fit (length (numbers ns)) room (fit .fit .result) (fit .fit .ensures) (fits .if3 .left) in
-    omega (arith, enough, word .put-word .kept .1 .0)
+    omega (arith, enough, word .put .kept .1 .0)
 
 same-length : tie.Need-same-length
 same-length c = search needs
@@ -72,7 +72,7 @@ returns-4 c =
     let room = length (start .args .out .now) - start .args .at - length (start .args .word .now) in
     let enough = numbers-fit (length (numbers ns)) room (fit .fit .result) (fit .fit .ensures) (fits .if3 .left) in
     put-all (start .args .word .now) ns (start .args .out .now) _ _ _ _ _ refl
-    (put .put-numbers .ensures .0) (omega (arith, enough, put .put-numbers .ensures .0)) (word .put-word .ensures) (put .put-numbers .ensures .1)
+    (put .put-numbers .ensures .0) (omega (arith, enough, put .put-numbers .ensures .0)) (word .put .ensures .1) (put .put-numbers .ensures .1)
 
 pub put-spec : {M : Type 1} → statement M
 put-spec =
@@ -84,7 +84,7 @@ put-spec =
     sub-fit
     fit-requires
     returns-3
-    put-word-requires
+    put-requires
     add-put-numbers
     put-numbers-requires
     same-length
