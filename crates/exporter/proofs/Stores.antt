@@ -1,15 +1,13 @@
--- What the stores of the private functions write, on plain values: a time, a record, the heading, the whole text.
+-- What the stores of the private functions write, on plain values: a time, a record, the whole text.
 -- Core: whole-at, parts-at, time-whole, time-parts, record-written. The rest puts writes together.
 -- Assumes nothing.
 use Prim.Native.Nat.{ℕ, _+_, _<_, _≤_}
 use mathlib.Core.Path.{_≡_, refl, sym, ap, _∙_}
 use mathlib.Core.Bool.{Bool, true, false, not}
 use mathlib.Core.List.{List, [], _∷_, _++_, append-assoc, map, flatMap}
-use native.Mathlib.Numerals.{add-one}
 use native.Mathlib.Omega.{arith}
 use lib.Dec.{leb}
-use lib.ListN.{length, getD, take, set, length-append, length-set}
-use lib.Seq.{take-suc, take-length, length-take-le}
+use lib.ListN.{length, set, length-append, length-set}
 use borrow.Author.Tests.{eq-eqb, ne-eqb, le-leb, leb-true, leb-false, not-true, not-false}
 use Rattle.lent.specs.Lent.{over, fitted, endIn}
 use Rattle.lent.proofs.Over.{over-more, over-then, over-front, fitted-room, end-room}
@@ -134,22 +132,6 @@ record-written l m₁ m₂ m₃ e at first second third room first-is w₁ secon
     over-more l (set m₃ third return) t₅ at (third + 1) newline (omega (arith, long)) l₅ e₅
     ∙ ap (over l at) (simp append-assoc)
 
--- ---- A word at the front
-
-pub word-on :
-    (l m word : List ℕ) (i : ℕ) → i < length word → length word ≤ length l →
-    m ≡ over l 0 (take i word) → set m i (getD word i 0) ≡ over l 0 (take (i + 1) word)
-word-on l m word i h k w =
-    let t : length (take i word) ≡ i = length-take-le i word (omega arith) in
-    over-more l m (take i word) 0 i (getD word i 0) (omega arith) (omega arith) w
-    ∙ ap (over l 0) (sym (ap (λ (n : ℕ). take n word) (add-one i) ∙ take-suc word i 0 h))
-
-pub word-ends :
-    (l m word : List ℕ) (i : ℕ) → i ≤ length word → length word ≤ i → m ≡ over l 0 (take i word) → m ≡ over l 0 word
-word-ends l m word i h k w =
-    let e : i ≡ length word = omega arith in
-    w ∙ ap (λ (n : ℕ). over l 0 (take n word)) e ∙ ap (over l 0) (take-length word)
-
 -- ---- The room
 
 module _ (row : List ℕ) (room : ℕ) where
@@ -187,11 +169,11 @@ module _ (row : List ℕ) (end : ℕ) (end-is : end ≡ 23 + length (flatMap rec
 
   pub text-written :
       (before m n : List ℕ) → 23 ≤ length before →
-      m ≡ over before 0 headingText → n ≡ over m 23 (flatMap recordText (map lowestEntry (entries row))) →
+      m ≡ fitted before 0 headingText → n ≡ over m 23 (flatMap recordText (map lowestEntry (entries row))) →
       n ≡ exportedIn (exports.Length end) row before
   unfolding exportedIn textOf
   text-written before m n room w₁ w₂ =
       let lines : List ℕ = flatMap recordText (map lowestEntry (entries row)) in
       w₂
-      ∙ over-then before m headingText lines 0 23 (omega arith) refl w₁
+      ∙ over-then before m headingText lines 0 23 (omega arith) refl (w₁ ∙ fitted-room before 0 headingText room)
       ∙ over-front before (headingText ++ lines) end long

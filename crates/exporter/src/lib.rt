@@ -11,7 +11,7 @@ ghost use mathlib.Core.Path.{_≡_};
 ghost use mathlib.Core.List.{map, flatMap};
 ghost use lib.Dec.{leb};
 ghost use lib.ListN.{length};
-ghost use Rattle.lent.specs.Lent.{over};
+ghost use Rattle.lent.specs.Lent.{over, fitted};
 ghost use Rattle.fraction.specs.Answer.{lowest};
 ghost use Rattle.table.specs.declared.Outcome.the-variants.{Passed};
 ghost use Rattle.table.specs.Row.{longestRow, entries, lowestEntry};
@@ -118,24 +118,11 @@ fn put_records(row: &[u32], text: &mut [u8], at: usize) -> usize
     next
 }
 
-// Writes a word to the front.
-fn put_word(word: &[u8], text: &mut [u8])
-    requires { ⌜ length (now word) ≤ length (now text) ⌝ }
-    ensures { λ _. ⌜ now (text .exit) ≡ over (now (text .entry)) 0 (now (word .entry)) ⌝ }
-{
-    let mut i: usize = 0;
-    while i < word.len() {
-        text[i] = word[i];
-        i += 1;
-    }
-}
-
-// Writes the heading to the front, with its end.
+// Writes the heading to the front, with its end; without room for all of it nothing is written.
 fn put_heading(text: &mut [u8])
-    requires { ⌜ length headingText ≤ length (now text) ⌝ }
-    ensures { λ _. ⌜ now (text .exit) ≡ over (now (text .entry)) 0 headingText ⌝ }
+    ensures { λ _. ⌜ now (text .exit) ≡ fitted (now (text .entry)) 0 headingText ⌝ }
 {
-    put_word(b"phase,period,duration\r\n", text);
+    lent::put(b"phase,period,duration\r\n", text, 0);
 }
 
 // Writes a row as a listing to the front of `text`, in lowest terms, colliding or not, and answers how many bytes it has; what

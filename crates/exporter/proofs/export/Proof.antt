@@ -35,9 +35,7 @@ returns-2 c =
     )
 
 put-heading-requires : tie.Need-put-heading-requires
-put-heading-requires c κs =
-    let room = c .before .before in
-    omega (arith, room-there _ _ _ (room .has-room .ensures) (c .before .if1 .left))
+put-heading-requires c κs = search needs
 
 put-records-requires : tie.Need-put-records-requires
 put-records-requires c κs =
