@@ -2,7 +2,7 @@
 -- Assumes nothing.
 use Prim.Native.Nat.{ℕ, _+_, _-_, _<_, _≤_}
 use mathlib.Core.Path.{_≡_, refl, sym, ap, _∙_}
-use mathlib.Core.Bool.{Bool, true, false, cond}
+use mathlib.Core.Bool.{Bool, true, false, not, cond}
 use mathlib.Core.Logic.{⊎-elim}
 use mathlib.Core.List.{List, [], _∷_}
 use native.Mathlib.Nat.{add-zero, eq-zero-or-pos}
@@ -11,7 +11,9 @@ use native.Mathlib.Omega.{arith}
 use lib.Dec.{eqb}
 use lib.ListN.{length, getD, drop, drop-of-length-le, List·getD-eq-default}
 use lib.Seq.{drop-cons, drop-drop, getD-drop}
-use borrow.Author.Tests.{eq-eqb, ne-eqb}
+use borrow.Author.Tests.{eq-eqb, ne-eqb, not-true, not-false}
+use Rattle.lent.specs.Words.{beginsWith}
+use Rattle.lent.proofs.Words.{begins-within}
 use Rattle.decimal.specs.declared.Number.{Number}
 use Rattle.decimal.specs.declared.Number.the-variants as numbers
 use Rattle.decimal.specs.Answer.{Found, nothing, found, numberIn, numberAt}
@@ -21,7 +23,7 @@ use Rattle.fraction.specs.declared.Fraction.{Fraction}
 use Rattle.table.specs.declared.Entry.{Entry}
 use Rattle.listing.specs.Grammar.{quote, comma, return, newline}
 use Rattle.listing.specs.Means.{slash, fraction, blankPhase, entry, phaseWord, periodWord, durationWord}
-use Rattle.listing.specs.Answer.{after, parted, divided, timeIn, orBlank, phaseIn, beginsWith, wordIn, passing, fieldIn, ended}
+use Rattle.listing.specs.Answer.{after, parted, divided, timeIn, orBlank, phaseIn, wordIn, passing, fieldIn, ended}
 use Rattle.listing.specs.Answer.{threeIn, headingIn, entryIn}
 use Rattle.importer.specs.declared.Time.{Time}
 use Rattle.importer.specs.declared.Time.the-variants as times
@@ -299,38 +301,14 @@ module _ (f : Found (Unit {0})) where
 
 -- ---- A word
 
-module _ (word text : List ℕ) (i at : ℕ) where
-  pub begins-all : length word ≤ i → true ≡ beginsWith (drop i word) (drop at text)
-  unfolding beginsWith
-  begins-all h = rw (drop-of-length-le word h)
-
-  module _ (more : i < length word) where
-    pub begins-short : length text ≤ at → false ≡ beginsWith (drop i word) (drop at text)
-    unfolding beginsWith
-    begins-short h = rw (drop-of-length-le text h, drop-cons word i 0 more)
-
-    module _ (within : at < length text) where
-      begins-at :
-          beginsWith (drop i word) (drop at text)
-          ≡ cond (eqb (getD text at 0) (getD word i 0)) (beginsWith (drop (i + 1) word) (drop (at + 1) text)) false
-      unfolding beginsWith
-      begins-at = rw (add-one i, add-one at, drop-cons word i 0 more, drop-cons text at 0 within)
-
-      pub begins-other : (getD text at 0 ≡ getD word i 0 → ⊥) → false ≡ beginsWith (drop i word) (drop at text)
-      begins-other h = rw (begins-at, ne-eqb (getD text at 0) (getD word i 0) h)
-
-      pub begins-on :
-          getD text at 0 ≡ getD word i 0 →
-          beginsWith (drop (i + 1) word) (drop (at + 1) text) ≡ beginsWith (drop i word) (drop at text)
-      begins-on h = rw (begins-at, eq-eqb (getD text at 0) (getD word i 0) h)
-
-module _ (word text : List ℕ) (at : ℕ) where
-  pub word-other : false ≡ beginsWith word (drop at text) → nothing ≡ wordIn word (drop at text)
+module _ (word text : List ℕ) (at : ℕ) (stands : Bool) (is : stands ≡ beginsWith word (drop at text)) where
+  pub word-other : not stands ≡ true → nothing ≡ wordIn word (drop at text)
   unfolding wordIn
-  word-other h = rw (← h)
+  word-other h = rw (← is, not-true stands h)
 
-  pub word-same :
-      (next : ℕ) → next ≡ at + length word → true ≡ beginsWith word (drop at text) →
-      standing (drop next text) ≡ wordIn word (drop at text)
+  pub word-room : not stands ≡ false → length word ≤ length text - at
+  word-room h = begins-within word text at (sym is ∙ not-false stands h)
+
+  pub word-same : not stands ≡ false → standing (drop (at + length word) text) ≡ wordIn word (drop at text)
   unfolding wordIn
-  word-same next e h = rw (← h, drop-drop (length word) at text, e)
+  word-same h = rw (← is, not-false stands h, drop-drop (length word) at text)

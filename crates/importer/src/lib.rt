@@ -210,19 +210,10 @@ fn entry_at(text: &[u8], at: usize) -> Train
 fn word_at(text: &[u8], at: usize, word: &[u8]) -> Behind
     ensures { λ r. ⌜ placeOf (now (text .entry)) r ≡ wordIn (now (word .entry)) (drop at (now (text .entry))) ⌝ }
 {
-    let mut next = at;
-    let mut letter = 0;
-    while letter < word.len() {
-        if next >= text.len() {
-            return Behind::Missing;
-        }
-        if text[next] != word[letter] {
-            return Behind::Missing;
-        }
-        next += 1;
-        letter += 1;
+    if !lent::stands(word, text, at) {
+        return Behind::Missing;
     }
-    Behind::At(next)
+    Behind::At(at + word.len())
 }
 
 // The index behind a word and a byte.

@@ -4,13 +4,14 @@ use Prim.Native.Nat.{ℕ}
 use mathlib.Core.Path.{_≡_, refl}
 use mathlib.Core.List.{[], _∷_, flatMap}
 use Rattle.refusal.specs.Paper.{refuse}
+use Rattle.lent.specs.Words.{beginsWith}
 use Rattle.euclid.specs.Answer.{euclidWithin, euclid, gcd}
 use Rattle.decimal.specs.Answer.{isDigit, digitsFrom, numberIn}
 use Rattle.fraction.specs.Answer.{lowest}
 use Rattle.table.specs.Row.{entries, entriesOf}
 use Rattle.table.specs.Answer.{firstRefusal, noDenominator, noTime, entryCheck, checked}
 use Rattle.listing.specs.Paper.{paperImported}
-use Rattle.listing.specs.Answer.{after, parted, divided, orBlank, beginsWith, wordIn, passing, fieldIn, ended, threeIn}
+use Rattle.listing.specs.Answer.{after, parted, divided, orBlank, wordIn, passing, fieldIn, ended, threeIn}
 use Rattle.listing.specs.Answer.{oneMore, entriesFrom, listed, tableCheck, imported, importedIn, rowAfter}
 use Rattle.listing.specs.Promises.{Promises}
 use Rattle.listing.proofs.Importing as importing

@@ -3,37 +3,19 @@
 use Prim.Native.Nat.{ℕ}
 use mathlib.Core.Path.{_≡_, refl, sym, ap, subst, _∙_}
 use mathlib.Core.Bool.{Bool, true, false, cond}
-use mathlib.Core.List.{List, [], _∷_, _++_}
-use native.Mathlib.Omega.{arith}
-use lib.Dec.{eqb}
+use mathlib.Core.List.{List, _++_}
 use lib.ListN.{length, drop}
 use lib.Seq.{drop-append-seam}
-use borrow.Author.Tests.{eqb-true, eq-eqb}
+use Rattle.lent.specs.Words.{beginsWith}
+use Rattle.lent.proofs.Words.{begins-is, begins-self}
 use Rattle.decimal.specs.Answer.{nothing, found}
 use Rattle.listing.specs.Grammar.{NonEscaped}
-use Rattle.listing.specs.Answer.{beginsWith, wordIn}
+use Rattle.listing.specs.Answer.{wordIn}
 use Rattle.listing.proofs.Fronts.{Edge, AsFront, Exact}
 
 -- a value that is the word
 abbrev pub IsWord : (word v : List ℕ) → Unit {0} → Type 0
 IsWord word v u = v ≡ word
-
-begins-is : (word text : List ℕ) → beginsWith word text ≡ true → text ≡ word ++ drop (length word) text
-unfolding beginsWith
-begins-is [] text e = refl
-begins-is (w ∷ ws) [] e = absurd (let z : _≡_ {A = ℕ} 0 1 = cc in omega arith)
-begins-is (w ∷ ws) (t ∷ ts) e = go (eqb t w) refl e (begins-is ws ts)
-  where
-    go :
-        (b : Bool) → eqb t w ≡ b → cond b (beginsWith ws ts) false ≡ true →
-        (beginsWith ws ts ≡ true → ts ≡ ws ++ drop (length ws) ts) → t ∷ ts ≡ w ∷ (ws ++ drop (length ws) ts)
-    go true e f next = λ i. eqb-true t w e i ∷ next f i
-    go false e f next = absurd (let z : _≡_ {A = ℕ} 0 1 = cc in omega arith)
-
-begins-self : (word rest : List ℕ) → beginsWith word (word ++ rest) ≡ true
-unfolding beginsWith
-begins-self [] rest = refl
-begins-self (w ∷ ws) rest = rw (eq-eqb w w refl) (begins-self ws rest)
 
 word-found : (word l : List ℕ) → AsFront (IsWord word) l (wordIn word l)
 unfolding wordIn

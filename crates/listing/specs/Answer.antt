@@ -2,7 +2,6 @@
 --     after f b g              b if nothing was found, and g of what was
 --     parted n f, divided f    the time with the denominator, and with the numerator, that was found
 --     timeIn l, phaseIn l      a time and a phase at the front of a text, with what stands behind it
---     beginsWith word text     whether a text begins with a word
 --     wordIn word l            a word
 --     passing b f              the byte b behind what was found, and passed
 --     fieldIn read l           what is read, in quotes or without
@@ -26,11 +25,12 @@
 --     exportedIn answer row before    what it leaves in the buffer
 --     bufferAfter row before   the same, with the answer that it gives
 use Prim.Native.Nat.{ℕ, zero, suc, _*_}
-use mathlib.Core.Bool.{Bool, true, false, cond}
+use mathlib.Core.Bool.{cond}
 use mathlib.Core.List.{List, [], _∷_, _++_, map}
 use lib.Dec.{ltb, eqb}
 use lib.ListN.{length, getD, drop}
 use Rattle.refusal.specs.declared.Refusal.the-variants.{TextTooLong, BufferTooShort, BadRecord}
+use Rattle.lent.specs.Words.{beginsWith}
 use Rattle.decimal.specs.Answer.{Found, nothing, found, numberIn}
 use Rattle.fraction.specs.declared.Fraction.{Fraction}
 use Rattle.table.specs.declared.Entry.{Entry}
@@ -75,12 +75,6 @@ orBlank l (found f rest) = found f rest
 -- A phase.
 abbrev pub phaseIn : List ℕ → Found Fraction
 phaseIn l = orBlank l (timeIn l)
-
--- Whether a text begins with a word.
-unfoldable pub beginsWith : (word text : List ℕ) → Bool
-beginsWith [] text = true
-beginsWith (w ∷ ws) [] = false
-beginsWith (w ∷ ws) (t ∷ ts) = cond (eqb t w) (beginsWith ws ts) false
 
 -- A word.
 unfoldable pub wordIn : (word : List ℕ) → List ℕ → Found (Unit {0})
