@@ -12,6 +12,8 @@ use lib.Dec.{ltb, eqb}
 use lib.ListN.{length, getD, take, drop, length-append, take-append-drop}
 use lib.Seq.{length-take-le, drop-length, drop-cons, take-all, take-append-seam, getD-append-seam, getD-append-add}
 use borrow.Author.Tests.{ltb-false, eqb-true, lt-ltb, le-ltb, ne-eqb}
+use Rattle.lent.specs.Words.{beginsWith}
+use Rattle.lent.proofs.Words.{begins-is}
 use Rattle.decimal.specs.Digits.{Digit, Number}
 use Rattle.decimal.specs.Answer.{Found, nothing, found}
 use Rattle.decimal.proofs.Notation.{digits-at}
@@ -22,7 +24,7 @@ use Rattle.script.specs.declared.Single.the-variants as singles
 use Rattle.script.specs.Says.{space, return, freshWord, admitWord, withdrawWord, stepWord}
 use Rattle.script.specs.Says.{Spells, fresh, admit, withdraw, step, longest, Ending, plain, returned, Says, says}
 use Rattle.script.specs.Answer.{spacedIn, singleIn, freshOf, withdrawOf, stepOf, durationOf}
-use Rattle.script.specs.Answer.{periodOf, delayOf, beginsWith, spelt, textLength, callIn}
+use Rattle.script.specs.Answer.{periodOf, delayOf, spelt, textLength, callIn}
 use Rattle.script.proofs.Numbers.{AsSpaced, AsSingle, spaced-found, spaced-read, space-stops, single-found, single-read}
 
 -- ---- A call or none
@@ -57,18 +59,6 @@ none-bad P n (Withdraw place) p = absurd (n (Withdraw place) p)
 none-bad P n (Step c) p = absurd (n (Step c) p)
 
 -- ---- What is read of a text, it says
-
-begins-is : (word text : List ℕ) → beginsWith word text ≡ true → text ≡ word ++ drop (length word) text
-unfolding beginsWith
-begins-is [] text e = refl
-begins-is (w ∷ ws) [] e = absurd (let z : _≡_ {A = ℕ} 0 1 = cc in omega arith)
-begins-is (w ∷ ws) (t ∷ ts) e = go (eqb t w) refl e (begins-is ws ts)
-  where
-    go :
-        (b : Bool) → eqb t w ≡ b → cond b (beginsWith ws ts) false ≡ true →
-        (beginsWith ws ts ≡ true → ts ≡ ws ++ drop (length ws) ts) → t ∷ ts ≡ w ∷ (ws ++ drop (length ws) ts)
-    go true e f next = λ i. eqb-true t w e i ∷ next f i
-    go false e f next = absurd (let z : _≡_ {A = ℕ} 0 1 = cc in omega arith)
 
 module _ (text : List ℕ) where
   abbrev Said : Call → Type 0

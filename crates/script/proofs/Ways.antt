@@ -1,5 +1,5 @@
 -- The ways through the code, on plain values: where a text is read at an index, and one law for each return.
--- Core: spaced-behind and begins-at, which say what the definitions are at an index. The rest follows from these.
+-- Core: spaced-behind, which says what a number is at an index. The rest follows from this.
 -- Assumes nothing.
 use Prim.Native.Nat.{ℕ, _+_, _-_, _<_, _≤_}
 use mathlib.Core.Path.{_≡_, refl, sym, ap, _∙_}
@@ -11,6 +11,7 @@ use lib.Dec.{eqb}
 use lib.ListN.{length, getD, take, drop, drop-of-length-le}
 use lib.Seq.{drop-cons}
 use borrow.Author.Tests.{lt-ltb, le-ltb, eq-eqb, ne-eqb}
+use Rattle.lent.specs.Words.{beginsWith}
 use Rattle.decimal.specs.declared.Number.{Number}
 use Rattle.decimal.specs.Answer.{Found, nothing, found, numberIn, numberAt}
 use Rattle.decimal.specs.Inside.{foundAt}
@@ -19,7 +20,7 @@ use Rattle.script.specs.declared.Call.the-variants.{Bad}
 use Rattle.script.specs.declared.Single.the-variants as singles
 use Rattle.script.specs.Says.{space, return, freshWord, admitWord, withdrawWord, stepWord, longest}
 use Rattle.script.specs.Answer.{spacedIn, singleOf, singleIn, freshOf}
-use Rattle.script.specs.Answer.{delayOf, withdrawOf, stepOf, beginsWith, spelt, textLength, callIn}
+use Rattle.script.specs.Answer.{delayOf, withdrawOf, stepOf, spelt, textLength, callIn}
 
 -- ---- A number
 
@@ -41,33 +42,6 @@ module _ (text : List ℕ) (at : ℕ) where
     spaced-number r h e =
         let there : numberIn (drop (at + 1) text) ≡ spacedIn (drop at text) = rw (spaced-behind, eq-eqb (getD text at 0) space h) in
         ap (foundAt text) e ∙ found-again text (at + 1) ∙ there
-
--- ---- A word
-
-module _ (word text : List ℕ) (i : ℕ) where
-  pub begins-all : length word ≤ i → true ≡ beginsWith (drop i word) (drop i text)
-  unfolding beginsWith
-  begins-all h = rw (drop-of-length-le word h)
-
-  module _ (more : i < length word) where
-    pub begins-short : length text ≤ i → false ≡ beginsWith (drop i word) (drop i text)
-    unfolding beginsWith
-    begins-short h = rw (drop-of-length-le text h, drop-cons word i 0 more)
-
-    module _ (within : i < length text) where
-      begins-at :
-          beginsWith (drop i word) (drop i text)
-          ≡ cond (eqb (getD text i 0) (getD word i 0)) (beginsWith (drop (i + 1) word) (drop (i + 1) text)) false
-      unfolding beginsWith
-      begins-at = rw (add-one, drop-cons word i 0 more, drop-cons text i 0 within)
-
-      pub begins-other : (getD text i 0 ≡ getD word i 0 → ⊥) → false ≡ beginsWith (drop i word) (drop i text)
-      begins-other h = rw (begins-at, ne-eqb (getD text i 0) (getD word i 0) h)
-
-      pub begins-on :
-          getD text i 0 ≡ getD word i 0 →
-          beginsWith (drop (i + 1) word) (drop (i + 1) text) ≡ beginsWith (drop i word) (drop i text)
-      begins-on h = rw (begins-at, eq-eqb (getD text i 0) (getD word i 0) h)
 
 -- ---- The end of a line
 

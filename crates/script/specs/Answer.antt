@@ -2,15 +2,15 @@
 --     spacedIn text          the number that a space and digits say at the front of a text
 --     singleOf, singleIn     that number, if nothing follows it
 --     freshOf, withdrawOf, stepOf, delayOf, periodOf, durationOf   the call with these numbers
---     beginsWith word text   whether a text begins with a word
 --     spelt text             what a text says
 --     textLength line        the bytes of a line without the CR at its end
 --     callIn line            what `read` answers
 use Prim.Native.Nat.{ℕ, _-_}
-use mathlib.Core.Bool.{Bool, true, false, cond}
+use mathlib.Core.Bool.{cond}
 use mathlib.Core.List.{List, [], _∷_}
 use lib.Dec.{ltb, eqb}
 use lib.ListN.{length, getD, take, drop}
+use Rattle.lent.specs.Words.{beginsWith}
 use Rattle.decimal.specs.Answer.{Found, nothing, found, numberIn}
 use Rattle.script.specs.declared.Call.{Call}
 use Rattle.script.specs.declared.Call.the-variants.{Bad, Fresh, Admit, Withdraw, Step}
@@ -62,12 +62,6 @@ periodOf delay (found period rest) = durationOf delay period (singleIn rest)
 abbrev pub delayOf : Found ℕ → Call
 delayOf nothing = Bad
 delayOf (found delay rest) = periodOf delay (spacedIn rest)
-
--- Whether a text begins with a word.
-unfoldable pub beginsWith : (word text : List ℕ) → Bool
-beginsWith [] text = true
-beginsWith (w ∷ ws) [] = false
-beginsWith (w ∷ ws) (t ∷ ts) = cond (eqb t w) (beginsWith ws ts) false
 
 -- What a text says, by its first word.
 unfoldable pub spelt : List ℕ → Call

@@ -6,7 +6,7 @@ ghost use lib.ListN.{length, drop};
 ghost use Rattle.decimal.specs.Inside.{foundAt};
 ghost use Rattle.script.specs.Says.{longest};
 ghost use Rattle.script.specs.Answer.{spacedIn, singleIn, freshOf, delayOf, withdrawOf, stepOf};
-ghost use Rattle.script.specs.Answer.{beginsWith, spelt, textLength, callIn};
+ghost use Rattle.script.specs.Answer.{spelt, textLength, callIn};
 use decimal::Number;
 
 // What a line says.
@@ -102,37 +102,20 @@ fn step(number: Single) -> Call
     }
 }
 
-// Whether a text begins with a word.
-fn begins(text: &[u8], word: &[u8]) -> bool
-    ensures { λ r. ⌜ r ≡ beginsWith (now (word .entry)) (now (text .entry)) ⌝ }
-{
-    let mut letter = 0;
-    while letter < word.len() {
-        if letter >= text.len() {
-            return false;
-        }
-        if text[letter] != word[letter] {
-            return false;
-        }
-        letter += 1;
-    }
-    true
-}
-
 // The call that a text says by its first word.
 fn call_in(text: &[u8]) -> Call
     ensures { λ r. ⌜ r ≡ spelt (now (text .entry)) ⌝ }
 {
-    if begins(text, b"step") {
+    if lent::stands(b"step", text, 0) {
         return step(single_at(text, 4));
     }
-    if begins(text, b"admit") {
+    if lent::stands(b"admit", text, 0) {
         return admit(text);
     }
-    if begins(text, b"withdraw") {
+    if lent::stands(b"withdraw", text, 0) {
         return withdraw(single_at(text, 8));
     }
-    if begins(text, b"fresh") {
+    if lent::stands(b"fresh", text, 0) {
         return fresh(single_at(text, 5));
     }
     Call::Bad
