@@ -12,7 +12,7 @@ const LARGEST: u64 = u32::MAX as u64;
 const SELDOM: u64 = 1_000_000;
 
 /// One listing in so many of its kind is as long as may be, or longer.
-const LARGE: u64 = 6;
+const LARGE: u64 = 16;
 
 const END: &str = "\r\n";
 
