@@ -5,7 +5,7 @@
 # The programs are those in target/bin, or in the folder that is named.
 #
 # What LibreOffice 7.4 does, on Linux:
-#   - It ends lines with LF, whatever it has read; that is refused as 18 with 1, and `imported` turns it. On Windows it writes CRLF.
+#   - It ends lines with LF, whatever it has read; that is refused as 18 with 1, and `imported` turns it.
 #   - Columns that are set to Text keep every character. Others keep a fraction only where it is no date: with the recognition of
 #     dates, as in a cell that is typed, 12/13 is the 13th of December (in England and France 4/3 and 13/12 are dates), while 36/13 and
 #     72/13 stay text. A date is exported as a date, 12/13/26, which is refused. But a date that is set to Text or to a number
