@@ -5,16 +5,16 @@ use mathlib.Core.Path.{sym}
 use native.Mathlib.Omega.{arith}
 use lib.ListN.{length}
 use Rattle.lent.proofs.Over.{fitted-short, end-short}
-use Rattle.lent.proofs.Records.{Putting, putting-begins, putting-room, putting-on, putting-ends}
+use Rattle.lent.proofs.Records.{Copying, copying-begins, copying-on, copying-ends}
 use borrow.Author.Needs.{needs}
 use Rattle.lent.proofs.put.Statement.{statement}
 use Rattle.lent.proofs.put.Tie as tie
 
 abbrev Inv-loop : tie.InvT-loop
-Inv-loop bytes out₀ at next₀ i₀ out next i = Putting bytes out₀ at out next i
+Inv-loop bytes out₀ at end i₀ out i = Copying bytes out₀ at out i
 
 abbrev μ-loop : tie.MeasureT-loop
-μ-loop bytes out₀ at next₀ i₀ out next i = length bytes - i
+μ-loop bytes out₀ at end i₀ out i = length bytes - i
 
 returns : tie.Need-returns Inv-loop μ-loop
 returns c = let args = c .before .args in
@@ -29,19 +29,20 @@ returns-2 c = let args = c .before .before .args in
     let short : length (args .out .now) < args .at + length (args .bytes .now) = omega (arith, c .if2 .taken, c .before .if1 .left) in
     (sym (end-short _ _ (args .bytes .now) short), sym (fitted-short _ _ (args .bytes .now) short))
 
+add-end : tie.Need-add-end Inv-loop μ-loop
+add-end c = search needs
+
 loop-holds : tie.Need-loop-holds Inv-loop μ-loop
-loop-holds c = putting-begins _ _ _ (omega (arith, c .if2 .left, c .before .if1 .left))
+loop-holds c = copying-begins _ _ _ (omega (arith, c .if2 .left, c .before .if1 .left))
 
 shared-slice-read-out : tie.Need-shared-slice-read-out Inv-loop μ-loop
 shared-slice-read-out c = search needs
 
-slice-write-out : tie.Need-slice-write-out Inv-loop μ-loop
-slice-write-out c = putting-room _ _ _ _ _ _ (c .before .before .loop .inv) (c .before .loop-test .taken)
+add-out : tie.Need-add-out Inv-loop μ-loop
+add-out c = search needs
 
-add-next : tie.Need-add-next Inv-loop μ-loop
-add-next c =
-    let fits = putting-room _ _ _ _ _ _ (c .before .before .loop .inv) (c .before .loop-test .taken) in
-    search needs
+slice-write-out : tie.Need-slice-write-out Inv-loop μ-loop
+slice-write-out c = search needs
 
 add-i : tie.Need-add-i Inv-loop μ-loop
 add-i c = search needs
@@ -50,13 +51,13 @@ loop-less : tie.Need-loop-less Inv-loop μ-loop
 loop-less c = search needs
 
 loop-again : tie.Need-loop-again Inv-loop μ-loop
-loop-again c = putting-on _ _ _ _ _ _ (c .before .before .loop .inv) (c .before .loop-test .taken)
+loop-again c = copying-on _ _ _ _ _ (c .before .before .loop .inv) (c .before .loop-test .taken)
 
 same-length : tie.Need-same-length Inv-loop μ-loop
-same-length c = c .before .loop .inv .same
+same-length c = search needs
 
 returns-3 : tie.Need-returns-3 Inv-loop μ-loop
-returns-3 c = putting-ends _ _ _ _ _ _ (c .before .loop .inv) (c .loop-test .left)
+returns-3 c = copying-ends _ _ _ _ _ (c .before .loop .inv) (c .loop-test .left)
 
 pub put-spec : {M : Type 1} → statement M
 put-spec =
@@ -67,10 +68,11 @@ put-spec =
     returns
     sub-if2
     returns-2
+    add-end
     loop-holds
     shared-slice-read-out
+    add-out
     slice-write-out
-    add-next
     add-i
     loop-less
     loop-again
