@@ -81,7 +81,11 @@ prints 'accept 13 1' 0 quiet ./urzabelki verdict examples/quoted.csv
 prints 'refuse 18 4' 1 quiet ./urzabelki verdict examples/decimals.csv
 prints 'refuse 18 1' 1 quiet ./urzabelki verdict examples/line-ends.csv
 prints '' 1 speaks ./urzabelki export "$listing"
+grep -q 'This is a listing' "$room/err" || wrong "export does not know a listing"
+prints '' 1 speaks ./urzabelki export examples/not-lowest.stt
+grep -q '^refuse 12 1$' "$room/err" && grep -q 'right file' "$room/err" || wrong "export does not say what is wrong with a stored table"
 prints '' 1 speaks ./urzabelki import examples/thirteenths.stt
+grep -q 'stored table already' "$room/err" || wrong "import does not know a stored table"
 prints '' 1 speaks ./urzabelki import </dev/null
 # What README.md shows of a refused listing is what a person sees.
 said ./urzabelki import examples/decimals.csv
