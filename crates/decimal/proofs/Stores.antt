@@ -1,6 +1,5 @@
--- What the stores of `put` write, and where they end, on plain values.
--- Core: over-ahead, one store in front of a write, and Backwards, the digits from the last to the first. The rest follows the
--- text of the definitions.
+-- What the stores of `put` write, on plain values.
+-- Core: over-ahead, one store in front of a write, and Backwards, the digits from the last to the first.
 -- Assumes nothing.
 use Prim.Native.Nat.{ℕ, suc, _+_, _-_, _/_, _%_, _<_, _≤_}
 use mathlib.Core.Path.{_≡_, refl, sym, ap, _∙_}
@@ -8,8 +7,8 @@ use mathlib.Core.List.{List, [], _∷_, _++_, append-assoc, append-nil}
 use native.Mathlib.Omega.{arith}
 use lib.ListN.{length, set, length-append}
 use lib.Seq.{sets, set-comm}
-use Rattle.lent.specs.Lent.{over, fitted, endIn}
-use Rattle.lent.proofs.Over.{over-none, over-sets, fitted-room, fitted-short, end-short, end-room}
+use Rattle.lent.specs.Lent.{over}
+use Rattle.lent.proofs.Over.{over-none, over-sets}
 use Rattle.decimal.specs.Answer.{digit, decimal}
 use Rattle.decimal.proofs.Notation.{decimal-last}
 
@@ -84,16 +83,3 @@ backwards-ends l m n at left place h b = go (b .ahead) (b .there) (b .whole)
     go : (ds : List ℕ) → at + length ds ≡ place → decimal n ≡ ds ++ b .behind → m ≡ over l at (decimal n)
     go [] t w = b .wrote ∙ ap (λ (k : ℕ). over l k (b .behind)) (omega arith) ∙ ap (over l at) (sym w)
     go (d ∷ ds) t w = absurd (omega arith)
-
--- ---- Whole or not at all
-
-module _ (l text : List ℕ) (at : ℕ) where
-  -- without room nothing is written
-  pub put-short : length l < at + length text → (at ≡ endIn (length l) at text) × (l ≡ fitted l at text)
-  put-short h = (sym (end-short (length l) at text h), sym (fitted-short l at text h))
-
-  -- with room all of it is
-  pub put-room :
-      (end : ℕ) (m : List ℕ) → at + length text ≤ length l → end ≡ at + length text → m ≡ over l at text →
-      (end ≡ endIn (length l) at text) × (m ≡ fitted l at text)
-  put-room end m h e w = (e ∙ sym (end-room (length l) at text h), w ∙ sym (fitted-room l at text h))

@@ -3,23 +3,24 @@
 -- Assumes nothing.
 use Prim.Native.Nat.{ℕ, zero, suc, _+_, _*_, _<_, _≤_}
 use mathlib.Core.Path.{_≡_, refl, sym, ap, subst, _∙_}
-use mathlib.Core.Bool.{Bool, true, false, cond, false≢true}
+use mathlib.Core.Bool.{Bool, true, false, cond}
 use mathlib.Core.List.{List, [], _∷_, _++_, append-assoc, map, flatMap}
 use native.Mathlib.Omega.{arith}
-use lib.Dec.{eqb, leb}
+use lib.Dec.{eqb}
 use lib.ListN.{length, getD, replicate, length-append}
-use borrow.Author.Tests.{eq-eqb, ne-eqb, eqb-true, eqb-false, leb-true}
+use borrow.Author.Tests.{eq-eqb, ne-eqb, eqb-true, eqb-false}
 use Rattle.decimal.specs.Answer.{leadingWithin, decimal}
 use Rattle.decimal.proofs.Notation.{decimal-u32}
 use Rattle.decimal.proofs.Numbers.{decimal-number}
 use Rattle.fraction.specs.declared.Fraction.{Fraction}
 use Rattle.table.specs.declared.Entry.{Entry}
 use Rattle.table.specs.Row.{noEntry}
-use Rattle.listing.specs.Grammar.{comma, high, NonEscaped, Field, plain, Record, of-line, File}
+use Rattle.listing.specs.Grammar.{comma, Field, plain, Record, of-line, File}
 use Rattle.listing.specs.Grammar as grammar
 use Rattle.listing.specs.Means.{slash, fraction, Time, whole, parts, time, phaseWord, periodWord, durationWord, heading, entry, Good, good, Goods, Listing}
 use Rattle.listing.specs.Means as means
 use Rattle.listing.specs.Layout.{timeText, headingText, recordText, textOf, longestText, longestExport, Small, SmallEntry, HasDenominators}
+use Rattle.listing.proofs.Words.{letters, letters-plain}
 use Rattle.listing.proofs.Times.{time-plain}
 
 -- ---- What is written says what it stands for
@@ -99,23 +100,6 @@ lines-say [] each = means.none
 lines-say (e ∷ es) each =
     let here = each 0 (omega arith) in
     means.more (train-says e (here .0) (here .1)) (lines-say es (λ i h. each (suc i) (omega arith)))
-
--- Whether every byte of a word may stand without quotes, as letters may.
-unfoldable letters : List ℕ → Bool
-letters [] = true
-letters (b ∷ bs) = cond (leb 45 b) (cond (leb b 126) (letters bs) false) false
-
-letters-plain : (word : List ℕ) → letters word ≡ true → NonEscaped word
-unfolding letters
-letters-plain [] e = grammar.none
-letters-plain (b ∷ bs) e = go (leb 45 b) (leb b 126) refl refl (letters-plain bs) e
-  where
-    go :
-        (t u : Bool) → leb 45 b ≡ t → leb b 126 ≡ u → (letters bs ≡ true → NonEscaped bs) →
-        cond t (cond u (letters bs) false) false ≡ true → NonEscaped (b ∷ bs)
-    go true true f g rest h = grammar.more (high {b = b} (leb-true 45 b f) (leb-true b 126 g)) (rest h)
-    go true false f g rest h = absurd (false≢true h)
-    go false u f g rest h = absurd (false≢true h)
 
 -- the heading is a record of its three words
 heading-record : Record heading (phaseWord ++ (comma ∷ periodWord ++ (comma ∷ durationWord)))

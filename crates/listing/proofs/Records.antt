@@ -12,12 +12,12 @@ use lib.ListN.{length, getD, drop, length-append}
 use borrow.Author.Tests.{eqb-true}
 use Rattle.decimal.specs.Answer.{Found, nothing, found}
 use Rattle.table.specs.declared.Entry.{Entry}
-use Rattle.listing.specs.Grammar.{high, NonEscaped, Field, Record, Ends, of-text, of-line, comma, return, newline}
+use Rattle.listing.specs.Grammar.{Field, Record, Ends, of-text, of-line, comma, return, newline}
 use Rattle.listing.specs.Means.{Time, Phase, entry, Good, good, heading, phaseWord, periodWord, durationWord}
 use Rattle.listing.specs.Answer.{after, passing, fieldIn, ended, threeIn, timeIn, phaseIn, wordIn, headingIn, entryIn}
 use Rattle.listing.proofs.Fronts.{at-end, at-comma, at-return, AsFront, Exact}
 use Rattle.listing.proofs.Times.{begins-with, time-exact, phase-exact}
-use Rattle.listing.proofs.Words.{IsWord, word-exact}
+use Rattle.listing.proofs.Words.{IsWord, word-exact, letters, letters-plain}
 use Rattle.listing.proofs.Fields.{AsBefore, passing-found, FieldOf, field-found, field-read}
 
 -- ---- The end of a record
@@ -223,25 +223,17 @@ Words vs u = Three (IsWord phaseWord) (IsWord periodWord) (IsWord durationWord) 
 three-heading : {vs : List (List ℕ)} {u : Unit {0}} → Words vs u → vs ≡ heading
 three-heading (three f g h) = λ i. f i ∷ g i ∷ h i ∷ []
 
--- small letters may stand without quotes
-letter : {b : ℕ} {bs : List ℕ} → 97 ≤ b → b ≤ 122 → NonEscaped bs → NonEscaped (b ∷ bs)
-letter {b} f t p = NonEscaped.more (high {b = b} (omega arith) (omega arith)) p
-
 phase-word : Exact (IsWord phaseWord) (wordIn phaseWord)
-phase-word = word-exact phaseWord
-    (letter (omega arith) (omega arith) (letter (omega arith) (omega arith) (letter (omega arith) (omega arith)
-    (letter (omega arith) (omega arith) (letter (omega arith) (omega arith) NonEscaped.none)))))
+unfolding letters
+phase-word = word-exact phaseWord (letters-plain phaseWord refl)
 
 period-word : Exact (IsWord periodWord) (wordIn periodWord)
-period-word = word-exact periodWord
-    (letter (omega arith) (omega arith) (letter (omega arith) (omega arith) (letter (omega arith) (omega arith)
-    (letter (omega arith) (omega arith) (letter (omega arith) (omega arith) (letter (omega arith) (omega arith) NonEscaped.none))))))
+unfolding letters
+period-word = word-exact periodWord (letters-plain periodWord refl)
 
 duration-word : Exact (IsWord durationWord) (wordIn durationWord)
-duration-word = word-exact durationWord
-    (letter (omega arith) (omega arith) (letter (omega arith) (omega arith) (letter (omega arith) (omega arith)
-    (letter (omega arith) (omega arith) (letter (omega arith) (omega arith) (letter (omega arith) (omega arith)
-    (letter (omega arith) (omega arith) (letter (omega arith) (omega arith) NonEscaped.none))))))))
+unfolding letters
+duration-word = word-exact durationWord (letters-plain durationWord refl)
 
 pub heading-found : (l : List ℕ) → AsEnded Headed l (headingIn l)
 heading-found l =

@@ -1,15 +1,17 @@
--- Words: one is found just where it stands.
+-- Words: one is found just where it stands, and letters need no quotes.
 -- Assumes nothing.
 use Prim.Native.Nat.{ℕ}
 use mathlib.Core.Path.{_≡_, refl, sym, ap, subst, _∙_}
-use mathlib.Core.Bool.{Bool, true, false, cond}
-use mathlib.Core.List.{List, _++_}
+use mathlib.Core.Bool.{Bool, true, false, cond, false≢true}
+use mathlib.Core.List.{List, [], _∷_, _++_}
+use lib.Dec.{leb}
 use lib.ListN.{length, drop}
 use lib.Seq.{drop-append-seam}
+use borrow.Author.Tests.{leb-true}
 use Rattle.lent.specs.Words.{beginsWith}
 use Rattle.lent.proofs.Words.{begins-is, begins-self}
 use Rattle.decimal.specs.Answer.{nothing, found}
-use Rattle.listing.specs.Grammar.{NonEscaped}
+use Rattle.listing.specs.Grammar.{high, NonEscaped, none, more}
 use Rattle.listing.specs.Answer.{wordIn}
 use Rattle.listing.proofs.Fronts.{Edge, AsFront, Exact}
 
@@ -38,3 +40,20 @@ word-exact word p =
       complete = word-read word;
       tame = λ v u e. subst NonEscaped (sym e) p;
     }
+
+-- Whether every byte of a word may stand without quotes, as letters may.
+unfoldable pub letters : List ℕ → Bool
+letters [] = true
+letters (b ∷ bs) = cond (leb 45 b) (cond (leb b 126) (letters bs) false) false
+
+pub letters-plain : (word : List ℕ) → letters word ≡ true → NonEscaped word
+unfolding letters
+letters-plain [] e = none
+letters-plain (b ∷ bs) e = go (leb 45 b) (leb b 126) refl refl (letters-plain bs) e
+  where
+    go :
+        (t u : Bool) → leb 45 b ≡ t → leb b 126 ≡ u → (letters bs ≡ true → NonEscaped bs) →
+        cond t (cond u (letters bs) false) false ≡ true → NonEscaped (b ∷ bs)
+    go true true f g rest h = more (high {b = b} (leb-true 45 b f) (leb-true b 126 g)) (rest h)
+    go true false f g rest h = absurd (false≢true h)
+    go false u f g rest h = absurd (false≢true h)

@@ -2,7 +2,7 @@
 -- Assumes nothing.
 use native.Mathlib.Omega.{arith}
 use Rattle.decimal.specs.Answer.{decimal}
-use Rattle.decimal.proofs.Stores.{put-short, put-room}
+use Rattle.lent.proofs.Over.{put-short, put-room}
 use borrow.Author.Needs.{needs}
 use Rattle.decimal.proofs.put.Statement.{statement}
 use Rattle.decimal.proofs.put.Tie as tie

@@ -1,10 +1,9 @@
 -- `put` meets its contract: without room nothing is written, else one byte after the other. The measure is the bytes that are left.
 -- Assumes nothing.
-use Prim.Native.Nat.{_+_, _-_, _<_}
-use mathlib.Core.Path.{sym}
+use Prim.Native.Nat.{_-_}
 use native.Mathlib.Omega.{arith}
 use lib.ListN.{length}
-use Rattle.lent.proofs.Over.{fitted-short, end-short}
+use Rattle.lent.proofs.Over.{put-short}
 use Rattle.lent.proofs.Records.{Copying, copying-begins, copying-on, copying-ends}
 use borrow.Author.Needs.{needs}
 use Rattle.lent.proofs.put.Statement.{statement}
@@ -17,17 +16,17 @@ abbrev μ-loop : tie.MeasureT-loop
 μ-loop bytes out₀ at end i₀ out i = length bytes - i
 
 returns : tie.Need-returns Inv-loop μ-loop
-returns c = let args = c .before .args in
-    let short : length (args .out .now) < args .at + length (args .bytes .now) = omega (arith, c .if1 .taken) in
-    (sym (end-short _ _ (args .bytes .now) short), sym (fitted-short _ _ (args .bytes .now) short))
+returns c =
+    let args = c .before .args in
+    put-short (args .out .now) (args .bytes .now) (args .at) (omega (arith, c .if1 .taken))
 
 sub-if2 : tie.Need-sub-if2 Inv-loop μ-loop
 sub-if2 c = search needs
 
 returns-2 : tie.Need-returns-2 Inv-loop μ-loop
-returns-2 c = let args = c .before .before .args in
-    let short : length (args .out .now) < args .at + length (args .bytes .now) = omega (arith, c .if2 .taken, c .before .if1 .left) in
-    (sym (end-short _ _ (args .bytes .now) short), sym (fitted-short _ _ (args .bytes .now) short))
+returns-2 c =
+    let args = c .before .before .args in
+    put-short (args .out .now) (args .bytes .now) (args .at) (omega (arith, c .if2 .taken, c .before .if1 .left))
 
 add-end : tie.Need-add-end Inv-loop μ-loop
 add-end c = search needs
