@@ -1,6 +1,6 @@
 #!/usr/bin/env bash
-# What ./urzabelki promises of its commands: the line on standard output, words at a terminal alone, the status, and that nothing
-# is passed over. Prints what does not hold; 1 where anything does not.
+# What ./urzabelki promises of its commands: the line on standard output, words at a terminal alone or below the line of a refused
+# listing, the status, and that nothing is passed over. Prints what does not hold; 1 where anything does not.
 set -uo pipefail
 cd "$(dirname "${BASH_SOURCE[0]}")/.." || exit 2
 

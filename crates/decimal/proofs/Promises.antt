@@ -5,6 +5,7 @@ use Rattle.decimal.specs.Answer.{leadingWithin, decimal}
 use Rattle.decimal.specs.Promises.{Promises}
 use Rattle.decimal.proofs.Notation.{decimal-is, decimal-only, decimal-u32, decimal-u64}
 use Rattle.decimal.proofs.Numbers.{number-exactly, front-exactly, read-back}
+use Rattle.decimal.proofs.Ways.{read-index}
 
 pub promises : Promises
 unfolding leadingWithin decimal
@@ -19,4 +20,5 @@ promises =
       number-exactly = number-exactly;
       front-exactly = front-exactly;
       read-back = read-back;
+      read-index = read-index;
     }

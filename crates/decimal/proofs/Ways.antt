@@ -99,9 +99,9 @@ found-again text at = go (numberIn (drop at text)) refl
     go (found n rest) e = ap (found n) (rest-there text at n rest (found-is (drop at text) n rest e))
 
 -- it stands behind the index where it began, and within the text
-pub found-behind :
+pub read-index :
     (text : List ℕ) (at n end : ℕ) → numberAt text at ≡ numbers.Found n end → (at < end) × (end ≤ length text)
-found-behind text at n end e = go (numberIn (drop at text)) refl e
+read-index text at n end e = go (numberIn (drop at text)) refl e
   where
     go :
         (f : Found ℕ) → numberIn (drop at text) ≡ f → indexed (length text) f ≡ numbers.Found n end →

@@ -5,7 +5,8 @@ use mathlib.Core.Logic.{_↔_}
 use mathlib.Core.List.{List, [], _++_}
 use lib.ListN.{length}
 use Rattle.decimal.specs.Digits.{IsDecimal, Number, Stops}
-use Rattle.decimal.specs.Answer.{decimal, found, numberIn}
+use Rattle.decimal.specs.declared.Number.the-variants as numbers
+use Rattle.decimal.specs.Answer.{decimal, found, numberIn, numberAt}
 
 pub record Promises : Type 0 where
   -- What is written for a number is its decimal notation, and there is no other.
@@ -24,3 +25,5 @@ pub record Promises : Type 0 where
       (numberIn text ≡ found n rest) ↔ ((ds : List ℕ) × Number n ds × (text ≡ ds ++ rest) × Stops rest)
   -- What is written is read back.
   pub read-back : (n : ℕ) (rest : List ℕ) → n < 2 ^ 32 → Stops rest → numberIn (decimal n ++ rest) ≡ found n rest
+  -- The index that `read` answers stands behind the one where the number began, and within the text.
+  pub read-index : (text : List ℕ) (at n end : ℕ) → numberAt text at ≡ numbers.Found n end → (at < end) × (end ≤ length text)
