@@ -126,7 +126,7 @@ fn put_heading(text: &mut [u8])
 pub fn export(row: &[u32], text: &mut [u8]) -> Exported
     ensures answer { result ≡ exported row.now (length text.old) }
     ensures bytes { text.new ≡ exported_in result row.now text.old }
-    ensures* constants { do ⌜ (← (⟦Exported::LONGEST⟧).entry) ≡ longest_export ⌝ }
+    ensures constants { Exported.LONGEST ≡ longest_export }
 {
     let checked = table::check(row);
     match checked {

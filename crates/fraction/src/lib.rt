@@ -105,7 +105,8 @@ impl Multiple {
 
     // The multiple of these denominators and one more. What has passed the limit stays above it.
     pub fn including(self, denominator: u32) -> Multiple
-        ensures* { do ⌜ (result ≡ included self denominator) × ((← (⟦Multiple::LIMIT⟧).entry) ≡ limit) ⌝ }
+        ensures answer { result ≡ included self denominator }
+        ensures constant { Multiple.LIMIT ≡ limit }
     {
         match self {
             Multiple::Above => Multiple::Above,

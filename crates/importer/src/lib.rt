@@ -331,7 +331,7 @@ fn put_entries(text: &[u8], first: usize, row: &mut [u32])
 pub fn import(text: &[u8], row: &mut [u32]) -> Imported
     ensures answer { result ≡ imported text.now (length row.old) }
     ensures entries { row.new ≡ imported_in result text.now row.old }
-    ensures* constants { do ⌜ (← (⟦Imported::LONGEST⟧).entry) ≡ longest_text ⌝ }
+    ensures constants { Imported.LONGEST ≡ longest_text }
 {
     if text.len() > Imported::LONGEST {
         return Imported::Refused(Refusal::TextTooLong);

@@ -91,9 +91,8 @@ pub fn put(word: &[u8], values: &[u64], out: &mut [u8], at: usize) -> Written
 pub fn write(verdict: Verdict, out: &mut [u8]) -> Written
     ensures answer { result ≡ written verdict (length out.old) }
     ensures bytes { out.new ≡ written_in result verdict out.old }
-    ensures* suffices { do
-      ⌜ ((← (⟦Written::LONGEST⟧).entry) ≡ longest)
-          × (longest ≤ length out.old → result ≡ Written.Length (length (line_of verdict))) ⌝ }
+    ensures constant { Written.LONGEST ≡ longest }
+    ensures suffices { longest ≤ length out.old → result ≡ Written.Length (length (line_of verdict)) }
 {
     match verdict {
         Verdict::Accepted(figures) => {

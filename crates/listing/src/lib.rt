@@ -35,6 +35,6 @@ impl Exported {
 
 // The constants are those of specs/Layout.antt.
 fn constants()
-    ensures* { do
-      ⌜ ((← (⟦Imported::LONGEST⟧).entry) ≡ longest_text) × ((← (⟦Exported::LONGEST⟧).entry) ≡ longest_export) ⌝ }
+    ensures text { Imported.LONGEST ≡ longest_text }
+    ensures export { Exported.LONGEST ≡ longest_export }
 {}

@@ -184,7 +184,7 @@ fn short(room: usize, at: usize) -> bool
 pub fn play(dispatcher: Dispatcher, said: &[u8], out: &mut [u8], at: usize) -> Played
     ensures answer { result ≡ played dispatcher said.now at (length out.old) }
     ensures bytes { out.new ≡ buffer_after result.written (reply_to dispatcher said.now) at out.old }
-    ensures* constants { do ⌜ (← (⟦Played::LONGEST⟧).entry) ≡ longest ⌝ }
+    ensures constants { Played.LONGEST ≡ longest }
 {
     if short(out.len(), at) {
         return Played {

@@ -86,7 +86,7 @@ fn put_records(row: &[u32], out: &mut [u8])
 pub fn save(row: &[u32], out: &mut [u8]) -> Saved
     ensures answer { result ≡ saved row.now (length out.old) }
     ensures bytes { out.new ≡ saved_in result row.now out.old }
-    ensures* constants { do ⌜ (← (⟦Saved::LONGEST⟧).entry) ≡ longest ⌝ }
+    ensures constants { Saved.LONGEST ≡ longest }
 {
     let checked = table::check(row);
     match checked {

@@ -140,7 +140,7 @@ fn text_length(line: &[u8]) -> usize
 // What a line says, which is handed over without its newline. A CR at its end is dropped.
 pub fn read(line: &[u8]) -> Call
     ensures answer { result ≡ call_in line.now }
-    ensures* constants { do ⌜ (← (⟦Call::LONGEST⟧).entry) ≡ longest ⌝ }
+    ensures constants { Call.LONGEST ≡ longest }
 {
     let length = text_length(line);
     if length > Call::LONGEST {

@@ -332,11 +332,10 @@ fn read_ticks(row: &[u32], tick: Fraction) -> Reading
 // The table of a row, or its refusal: 1; then train by train 2, 3 and 4; then 5 over the table; then 6.
 pub fn read(row: &[u32]) -> Reading
     ensures value { result ≡ reading row.now }
-    ensures* constants { do
-      ⌜ ((← (⟦Table::CAPACITY⟧).entry) ≡ capacity)
-          × ((← (⟦Table::NUMBERS⟧).entry) ≡ numbers)
-          × ((← (⟦Table::LONGEST_ROW⟧).entry) ≡ longest_row)
-          × ((← (⟦Table::RECORD_LENGTH⟧).entry) ≡ record_length) ⌝ }
+    ensures capacity { Table.CAPACITY ≡ capacity }
+    ensures numbers { Table.NUMBERS ≡ numbers }
+    ensures longest { Table.LONGEST_ROW ≡ longest_row }
+    ensures record { Table.RECORD_LENGTH ≡ record_length }
 {
     let checked = check(row);
     match checked {
