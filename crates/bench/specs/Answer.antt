@@ -1,27 +1,27 @@
 -- The number that each function hands back, which holds three, the figures of a verdict in the caller's memory, and how long a line is.
---     refused_kind             the kind of every refusal, which no other answer has
---     done_kind                the kind of a call that was done, where there is no other
+--     refused_kind    the kind of every refusal, which no other answer has
+--     done_kind       the kind of a call that was done, where there is no other
 --     accepted_kind, collide_kind
 --                             the kinds of a verdict
 --     idle_kind, starts_kind, goes_on_kind
 --                             the kinds of a step
---     Parts                   a refusal's number, a kind and a value
+--     Parts                     a refusal's number, a kind and a value
 --     kind_unit, number_unit    what one kind counts in the number that is handed back, and one number of a refusal
---     code p                  the number that holds the three
---     parts answer            the three that a number holds, as the header's functions take it apart
---     Fits p                  each of the three has room in the number
---     plain kind value        a call that was not refused
---     refused_parts r          a call that was refused: the paper's number, and its train or place
+--     code p                    the number that holds the three
+--     parts answer              the three that a number holds, as the header's functions take it apart
+--     Fits p                    each of the three has room in the number
+--     plain kind value          a call that was not refused
+--     refused_parts r           a call that was refused: the paper's number, and its train or place
 --     verdict_parts v, written_parts w, saved_parts s, loaded_parts l, imported_parts i, exported_parts e, admission_parts a,
 --     withdrawal_parts w, tick_parts t
 --                             the three of each answer
 --     verdict_code v, written_code w, saved_code s, loaded_code l, imported_code i, exported_code e, admission_code a,
 --     withdrawal_code w, tick_code t
 --                             the number of each answer
---     Seen refused answer     whether a call was refused is seen in its number in two ways, and both are right
---     figure_count             how many figures there are
---     figures_in v before      the figures after a verdict
---     longest_line             the bytes of the longest line that a call writes
+--     Seen refused answer    whether a call was refused is seen in its number in two ways, and both are right
+--     figure_count           how many figures there are
+--     figures_in v before    the figures after a verdict
+--     longest_line           the bytes of the longest line that a call writes
 use Rattle.std.specs.Prelude.{ℕ, ◌+◌, ◌*◌, ◌/◌, ◌%◌, ◌^◌, ◌<◌, ◌≡◌, ◌↔◌, List, [], ◌∷◌}
 use Rattle.std.proofs.lemmas.List.Edits.{sets}
 use Rattle.refusal.specs.declared.Refusal.{Refusal}

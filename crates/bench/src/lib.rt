@@ -1,5 +1,7 @@
 // The library that other languages link: the calls of the other crates as C functions over numbers and slices. Each is proved
 // equal to the call that it wraps; include/urzabelki.h is its header. No exported function has a `requires`.
+#![tactic(auto)]
+
 ghost use Rattle.std.specs.Prelude.{◌^◌, ◌<◌, ◌≡◌, [], ◌∷◌, length};
 ghost use Rattle.std.proofs.lemmas.List.Edits.{sets};
 ghost use Rattle.judge.specs.Answer.{verdict};

@@ -1,11 +1,11 @@
 -- The functions that the contracts cite: the trains of a listing as a stored table, and those of a stored table as a listing.
---     store_after imported room      what there is to answer after import: its refusal, 8, or the length of so many trains
---     store_answer text room         what `store` answers
---     store_leaves answer text before      what it leaves in the buffer
---     bytes_after text before        the same, with the answer that it gives
---     list_answer bs room            what `list` answers
---     list_leaves answer bs before   what it leaves in the buffer
---     text_after bs before           the same, with the answer that it gives
+--     store_after imported room          what there is to answer after import: its refusal, 8, or the length of so many trains
+--     store_answer text room             what `store` answers
+--     store_leaves answer text before    what it leaves in the buffer
+--     bytes_after text before            the same, with the answer that it gives
+--     list_answer bs room                what `list` answers
+--     list_leaves answer bs before       what it leaves in the buffer
+--     text_after bs before               the same, with the answer that it gives
 use Rattle.std.specs.Prelude.{ℕ, List, ◌++◌, map, ltb, length, drop}
 use Rattle.refusal.specs.declared.Refusal.TheVariants.{BufferTooShort}
 use Rattle.table.specs.Row.{longest_row, lowest_entry}

@@ -1,6 +1,6 @@
 -- When storing a listing and listing a stored table refuse, in the request's words.
---     StoreRefuses text room number place     Store: 7 by the length alone; then 18 for the first bad record; then 1 to 4 and 8 of saving
---     list_order bs room       List: the refusals of loading, then 8 of the buffer
+--     StoreRefuses text room number place    Store: 7 by the length alone; then 18 for the first bad record; then 1 to 4 and 8 of saving
+--     list_order bs room                     List: the refusals of loading, then 8 of the buffer
 use Rattle.std.specs.Prelude.{ℕ, ◌<◌, ◌≤◌, List, [], ◌∷◌, ◌++◌, length}
 use Rattle.refusal.specs.declared.Refusal.TheVariants.{BufferTooShort}
 use Rattle.refusal.specs.Order.{Check, ◌when◌, Gives}

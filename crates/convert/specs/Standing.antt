@@ -1,6 +1,6 @@
 -- What a program hands on to be written: it stands at the start of a buffer, and has so many bytes.
---     StoredOf text n bytes   the stored table of the trains of a listing, in lowest terms
---     ListedOf bs n text      the text of the trains of a stored table
+--     StoredOf text n bytes    the stored table of the trains of a listing, in lowest terms
+--     ListedOf bs n text       the text of the trains of a stored table
 use Rattle.std.specs.Prelude.{ℕ, ◌≤◌, ◌≡◌, List, map, length, take}
 use Rattle.table.specs.Row.{lowest_entry}
 use Rattle.stored.specs.Layout.{bytes_of}

@@ -1,5 +1,7 @@
 // Listings and stored tables: a listing is stored, a stored table is listed, and no fraction changes on the way. Both are written
 // over the contracts of the four calls alone, no public call has a `requires`, and a refusal writes nothing.
+#![tactic(auto)]
+
 ghost use Rattle.std.specs.Prelude.{◌≡◌, length};
 ghost use Rattle.convert.specs.Answer.{store_answer, store_leaves, list_answer, list_leaves};
 

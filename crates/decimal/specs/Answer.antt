@@ -1,14 +1,14 @@
 -- The functions that the contracts cite. Promises says what they have to do with the words of Digits.
 --     digit n                  the byte of a digit
---     leading_within most n     the digits of n, and none for 0, in at most that many digits
+--     leading_within most n    the digits of n, and none for 0, in at most that many digits
 --     decimal n                the decimal notation of n, whose length `width` answers
---     is_digit b                whether a byte is a digit
+--     is_digit b               whether a byte is a digit
 --     longer v b               the number v with one digit more
 --     Found A                  what was looked for at the front of a text, and the text behind it, or nothing
---     digits_from v text        the number whose digits go on there, after those that stand for v
---     number_in text            the number that digits say at the front of a text
+--     digits_from v text       the number whose digits go on there, after those that stand for v
+--     number_in text           the number that digits say at the front of a text
 --     indexed length f         the same with the index behind the number, in a text of that length
---     number_at text at         what `read` answers
+--     number_at text at        what `read` answers
 use Rattle.std.specs.Prelude.{ℕ, zero, suc, ◌+◌, ◌*◌, ◌-◌, ◌/◌, ◌%◌, ◌^◌, Bool, false, cond, List, [], ◌∷◌, ◌++◌, ltb, leb, length, get_or, drop}
 use Rattle.decimal.specs.declared.Number.{Number}
 use Rattle.decimal.specs.declared.Number.TheVariants as numbers

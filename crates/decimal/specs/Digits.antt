@@ -1,11 +1,11 @@
 -- What digits say, with no algorithm. A byte is a number, and a text is a list of bytes (ASCII).
---     Digit d                   the byte is one of the digits 0 to 9
---     Digits ds                 every byte of a text is a digit
---     worth d                   what a digit counts
---     value_from v ds, value ds  the number that digits stand for, after those that stand for v, and from the first on
---     IsDecimal n ds            the text is the decimal notation of n
---     Number n ds               the text is one or more digits that stand for n, a number of 32 bits
---     Stops text                the text does not begin with a digit
+--     Digit d                      the byte is one of the digits 0 to 9
+--     Digits ds                    every byte of a text is a digit
+--     worth d                      what a digit counts
+--     value_from v ds, value ds    the number that digits stand for, after those that stand for v, and from the first on
+--     IsDecimal n ds               the text is the decimal notation of n
+--     Number n ds                  the text is one or more digits that stand for n, a number of 32 bits
+--     Stops text                   the text does not begin with a digit
 use Rattle.std.specs.Prelude.{ℕ, ◌+◌, ◌*◌, ◌-◌, ◌^◌, ◌<◌, ◌≤◌, ◌≡◌, List, [], ◌∷◌, length, get_or}
 
 -- The digits 0 to 9 are the bytes 48 to 57.

@@ -1,5 +1,5 @@
 -- For callers that go on with the text behind a number. No contract of this crate cites this file; proofs/Ways.antt ties it to `read`.
---     found_at text number     what the code found in a text: it says where the number ends, and there the rest begins
+--     found_at text number    what the code found in a text: it says where the number ends, and there the rest begins
 use Rattle.std.specs.Prelude.{ℕ, List, drop}
 use Rattle.decimal.specs.declared.Number.{Number}
 use Rattle.decimal.specs.declared.Number.TheVariants as numbers

@@ -1,12 +1,14 @@
 // Numbers as text, both ways: the decimal notation of a number is written to lent memory, and digits are read as a number.
 // No public function has a `requires`: without room nothing is written, and what is no number of 32 bits is missing.
+#![tactic(auto)]
+
 ghost use Rattle.std.specs.Prelude.{◌≡◌, ◌+◌, ◌≤◌, ◌<◌, ◌^◌, length, drop};
 ghost use Rattle.lent.specs.Lent.{over, fitted, end_in};
 ghost use Rattle.decimal.specs.Answer.{decimal, is_digit, digits_from, indexed, number_at};
 ghost use Rattle.decimal.specs.Answer.{longer as Answer·longer};
 
 // What `read` answers.
-#[derive(Drop)]
+#[derive(Clone, Copy)]
 pub enum Number {
     // No number of 32 bits stands there.
     Missing,

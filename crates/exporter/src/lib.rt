@@ -1,5 +1,7 @@
 // Exporting: a row is written as a listing, in lowest terms. `export` has no `requires`; a refusal writes nothing, and what
 // follows the last byte written keeps its value.
+#![tactic(auto)]
+
 ghost use Rattle.std.specs.Prelude.{◌+◌, ◌≤◌, ◌≡◌, leb, length};
 ghost use mathlib.Core.List.{map, flat_map};
 ghost use Rattle.lent.specs.Lent.{over, fitted};

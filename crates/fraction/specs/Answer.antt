@@ -1,13 +1,13 @@
 -- The functions that the contracts cite. Promises says what they have to do with the words of Value.
 --     lowest f                    f in lowest terms
---     is_lowest f                  whether f is in lowest terms
+--     is_lowest f                 whether f is in lowest terms
 --     above f h                   whether f is above h
---     whole_ticks time tick        the time in ticks, where it is a whole number of them
+--     whole_ticks time tick       the time in ticks, where it is a whole number of them
 --     limit                       the largest multiple of denominators that a table takes
 --     limited m                   m, as long as it is within the limit
 --     included multiple d         the multiple of the denominators so far and d
---     common_multiple ds           the least common multiple of a list: the paper's L
---     running_from multiple ds     the multiple of the denominators so far and those of a list, one after the other
+--     common_multiple ds          the least common multiple of a list: the paper's L
+--     running_from multiple ds    the multiple of the denominators so far and those of a list, one after the other
 --     running ds                  the same from none so far: L against the limit
 use Rattle.std.specs.Prelude.{ℕ, ◌*◌, ◌/◌, ◌%◌, Bool, false, cond, List, [], ◌∷◌, leb, ltb, eqb}
 use Rattle.euclid.specs.Answer.{gcd, lcm}

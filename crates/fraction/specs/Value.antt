@@ -1,10 +1,10 @@
 -- What the words mean, with no algorithm.
---     SameValue f h               two fractions are one number
---     LowestTerms f               f is in lowest terms
---     Above f h                   f is a larger number than h
---     IsTicks time tick k         the time is k ticks, with nothing lost
---     AllDivide ds m              every number of the list divides m
---     IsCommonMultiple ds l       l is the least common multiple of the list
+--     SameValue f h            two fractions are one number
+--     LowestTerms f            f is in lowest terms
+--     Above f h                f is a larger number than h
+--     IsTicks time tick k      the time is k ticks, with nothing lost
+--     AllDivide ds m           every number of the list divides m
+--     IsCommonMultiple ds l    l is the least common multiple of the list
 use Rattle.std.specs.Prelude.{ℕ, ◌*◌, ◌<◌, ◌≡◌, List, [], ◌∷◌}
 use Rattle.std.specs.Int.{◌∣◌}
 use Rattle.euclid.specs.Divisor.{IsGcd}

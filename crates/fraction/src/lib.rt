@@ -1,24 +1,26 @@
 // Fractions n/m of 32 bits: lowest terms, the order by cross products, the running least common multiple of
 // denominators, and the whole ticks of a time. No quotient stands in for a fraction; no public call has a `requires`.
+#![tactic(auto)]
+
 ghost use Rattle.std.specs.Prelude.{◌≡◌, ◌*◌, ◌/◌};
 ghost use Rattle.fraction.specs.Answer.{lowest, is_lowest, above, limit, limited, included, whole_ticks};
 ghost use Rattle.euclid.specs.Answer.{gcd, lcm};
 
-#[derive(Drop)]
+#[derive(Clone, Copy)]
 pub struct Fraction {
     pub numerator: u32,
     pub denominator: u32,
 }
 
 // A time in ticks, where it is a whole number of them.
-#[derive(Drop)]
+#[derive(Clone, Copy)]
 pub enum Ticks {
     NotWhole,
     Whole(u64),
 }
 
 // The least common multiple of some denominators, as long as it is within the limit.
-#[derive(Drop)]
+#[derive(Clone, Copy)]
 pub enum Multiple {
     Above,
     Within(u32),

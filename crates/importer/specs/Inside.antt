@@ -1,10 +1,10 @@
 -- What the private functions answer. No public contract cites this file, and no caller need read it.
---     standing l              a place in a text, where l begins
+--     standing l                     a place in a text, where l begins
 --     time_of, place_of, train_of    what the code found in a text: it says where that ends, and there the rest begins
---     listed_from text first   what a text lists whose second record begins at an index
---     tallied n o x           what `scan` answers, where n trains with the outcome o stand before those of x
---     trains_check count o room    refusal 1, then that of the trains, which is known, then 8
---     Ready x room            x lists trains, and there is room for them
+--     listed_from text first         what a text lists whose second record begins at an index
+--     tallied n o x                  what `scan` answers, where n trains with the outcome o stand before those of x
+--     trains_check count o room      refusal 1, then that of the trains, which is known, then 8
+--     Ready x room                   x lists trains, and there is room for them
 use Rattle.std.specs.Prelude.{ℕ, ◌+◌, ◌*◌, ◌≤◌, ◌≡◌, List, ltb, length, drop}
 use Rattle.refusal.specs.declared.Refusal.TheVariants.{TrainCount, BufferTooShort}
 use Rattle.decimal.specs.Answer.{Found, nothing, found}

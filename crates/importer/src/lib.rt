@@ -1,5 +1,7 @@
 // Import: the text of a spreadsheet, RFC 4180, is read to a row, and no fraction is lost on the way. `import` has no `requires`; a
 // refusal writes nothing, and what follows the last number written keeps its value.
+#![tactic(auto)]
+
 ghost use Rattle.std.specs.Prelude.{◌<◌, ◌≡◌, map, length, drop, get_or};
 ghost use Rattle.lent.specs.Lent.{over};
 ghost use Rattle.decimal.specs.Inside.{found_at};
@@ -18,28 +20,28 @@ use refusal::Refusal;
 use table::{Entry, Outcome, Table};
 
 // A time that was looked for: its value, and the index behind it.
-#[derive(Drop)]
+#[derive(Clone, Copy)]
 enum Time {
     Missing,
     Found(Fraction, usize),
 }
 
 // A record that was looked for: its train, and the index behind its end.
-#[derive(Drop)]
+#[derive(Clone, Copy)]
 enum Train {
     Bad,
     Good(Entry, usize),
 }
 
 // The index behind what was looked for.
-#[derive(Drop)]
+#[derive(Clone, Copy)]
 enum Behind {
     Missing,
     At(usize),
 }
 
 // What the records behind the heading say.
-#[derive(Drop)]
+#[derive(Clone, Copy)]
 enum Scanned {
     // The number of the first bad record, the heading being 1.
     Bad(usize),

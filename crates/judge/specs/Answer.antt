@@ -1,9 +1,9 @@
 -- The functions that the contracts cite. Promises says what they have to do with the words of Pairs.
---     tick_of common           the tick of a pair that collides
---     scan train ps d         the first of some pairs that collides, or that all are free, with the count so far and theirs
---     found L train f         the verdict of what was found
---     judged o L ts           the verdict on the trains of a table that passes, or its refusal
---     verdict row             the verdict on a row, as `judge` answers it
+--     tick_of common     the tick of a pair that collides
+--     scan train ps d    the first of some pairs that collides, or that all are free, with the count so far and theirs
+--     found L train f    the verdict of what was found
+--     judged o L ts      the verdict on the trains of a table that passes, or its refusal
+--     verdict row        the verdict on a row, as `judge` answers it
 use Rattle.std.specs.Prelude.{ℕ, ◌+◌, cond, List, [], ◌∷◌, length}
 use Rattle.train.specs.declared.Train.{Train}
 use Rattle.train.specs.declared.CommonTick.{CommonTick}

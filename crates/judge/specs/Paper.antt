@@ -1,6 +1,6 @@
 -- What the paper prints of a verdict: a word and its values.
---     Shown               one of the three printed lines, with its numbers in their order
---     paper verdict       the line that is printed for a verdict
+--     Shown            one of the three printed lines, with its numbers in their order
+--     paper verdict    the line that is printed for a verdict
 use Rattle.std.specs.Prelude.{ℕ}
 use Rattle.refusal.specs.Paper as refusals
 use Rattle.judge.specs.declared.Verdict.{Verdict}

@@ -1,5 +1,7 @@
 // The verdict on a table, for all time: accepted, colliding (which pair first, and when), or refused; with L and the
 // division count. No public call has a `requires`: every row of 32-bit numbers has its verdict.
+#![tactic(auto)]
+
 ghost use Rattle.std.specs.Prelude.{◌≡◌};
 ghost use Rattle.judge.specs.Pairs.{train_at, pairs};
 ghost use Rattle.judge.specs.Answer.{scan, tick_of, verdict};
@@ -11,21 +13,21 @@ use table::{Outcome, Table};
 use train::{CommonTick, Train};
 
 // L, and the division count.
-#[derive(Drop)]
+#[derive(Clone, Copy)]
 pub struct Figures {
     pub multiple: u32,
     pub divisions: u32,
 }
 
 // Two trains of a table by their positions, and the earliest tick that both claim.
-#[derive(Drop)]
+#[derive(Clone, Copy)]
 pub struct Meeting {
     pub first: usize,
     pub second: usize,
     pub tick: u64,
 }
 
-#[derive(Drop)]
+#[derive(Clone, Copy)]
 pub enum Verdict {
     // No tick is ever claimed by two trains.
     Accepted(Figures),
@@ -36,7 +38,7 @@ pub enum Verdict {
 }
 
 // What the pairs of some trains say, with the divisions that they took.
-#[derive(Drop)]
+#[derive(Clone, Copy)]
 enum Found {
     Free(u32),
     Meets(usize, usize, u32),

@@ -1,18 +1,18 @@
 -- The functions that the contracts cite. Promises says what they have to do with the words of Text. A byte is a number, and a
 -- text is a list of bytes (ASCII); `decimal n`, the notation of a number, is decimal's.
---     space, newline           the bytes 32 and 10
---     spaced n                 a number as it stands in a line, after a space
---     numbers ns               the numbers of a line one after another, and then the newline
---     text_of word ns           the line of a word and its numbers
---     accept_word, collide_word, refuse_word   the three words
---     line shown               the printed line, as bytes
---     line_of verdict           the line of a verdict
---     longest                  the length of the longest line
---     answer_for text at room   the answer to a text that is to be written at an index of a buffer of that length
---     buffer_after answer text at before    the buffer after that answer
---     paper_written answer      what the paper has of an answer: where the line ends, or the refusal
---     written verdict room     what `write` answers
---     written_in answer verdict before   what it leaves in the buffer
+--     space, newline                            the bytes 32 and 10
+--     spaced n                                  a number as it stands in a line, after a space
+--     numbers ns                                the numbers of a line one after another, and then the newline
+--     text_of word ns                           the line of a word and its numbers
+--     accept_word, collide_word, refuse_word    the three words
+--     line shown                                the printed line, as bytes
+--     line_of verdict                           the line of a verdict
+--     longest                                   the length of the longest line
+--     answer_for text at room                   the answer to a text that is to be written at an index of a buffer of that length
+--     buffer_after answer text at before        the buffer after that answer
+--     paper_written answer                      what the paper has of an answer: where the line ends, or the refusal
+--     written verdict room                      what `write` answers
+--     written_in answer verdict before          what it leaves in the buffer
 use Rattle.std.specs.Prelude.{ℕ, ◌+◌, cond, List, [], ◌∷◌, ◌++◌, ltb, length}
 use Rattle.lent.specs.Lent.{over}
 use Rattle.decimal.specs.Answer.{decimal}

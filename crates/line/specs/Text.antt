@@ -1,5 +1,5 @@
 -- What the words mean, with no algorithm. What the decimal notation of a number is, decimal says: `IsDecimal` of its Digits.
---     Within shown            the numbers of a printed line are within their types
+--     Within shown    the numbers of a printed line are within their types
 use Rattle.std.specs.Prelude.{◌^◌, ◌<◌}
 use Rattle.judge.specs.Paper.{Shown, accept, collide, refuse}
 

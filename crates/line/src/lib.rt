@@ -1,5 +1,7 @@
 // A printed line, in ASCII: a word, its numbers in decimal, single spaces, and a newline; and the line of a verdict.
 // No public call has a `requires`: a lent buffer that is too short is refused, and nothing is written to it.
+#![tactic(auto)]
+
 ghost use Rattle.std.specs.Prelude.{◌≡◌, ◌+◌, ◌≤◌, leb, length};
 ghost use Rattle.line.specs.Answer.{spaced, numbers, text_of, line_of, longest, answer_for, buffer_after, written, written_in};
 ghost use Rattle.lent.specs.Lent.{over};
@@ -8,7 +10,7 @@ use judge::Verdict;
 use refusal::Refusal;
 
 // What `put` and `write` answer.
-#[derive(Drop)]
+#[derive(Clone, Copy)]
 pub enum Written {
     // The line stands in the buffer, and the bytes up to its end are so many: its own, where it stands at the front.
     Length(usize),

@@ -1,29 +1,29 @@
 -- The functions that the contracts cite. Promises says what they have to do with the words of Means, Layout and Given.
---     after f b g              b if nothing was found, and g of what was
---     parted n f, divided f    the time with the denominator, and with the numerator, that was found
---     time_in l, phase_in l      a time and a phase at the front of a text, with what stands behind it
---     word_in word l            a word
---     passing b f              the byte b behind what was found, and passed
---     field_in read l           what is read, in quotes or without
---     ended f                  the end of a record behind what was found, and passed
---     three_in r s t make l     a record of three fields
---     heading_in l, entry_in l   the heading, and a train
---     Listed                   the trains of a text, or its first bad record
---     one_more e x              one train in front of the others
---     entries_from n k l        the records from record k on; n is no less than the bytes of l
---     listed l                 what a text lists
---     trains_of x               the trains that are listed
---     table_check es room       refusals 1 to 4 and 8 of the trains of a listing
---     imported_after o k        the answer: the count, or the refusal that there is
---     imported_of room x        the answer for what a text lists
---     imported text room       what `import` answers
---     imported_in answer text before   what it leaves in the row
---     row_after text before     the same, with the answer that it gives
---     export_check row room     all refusals of export
---     exported_after o n        the answer: the length, or the refusal that there is
---     exported row room        what `export` answers
---     exported_in answer row before    what it leaves in the buffer
---     buffer_after row before   the same, with the answer that it gives
+--     after f b g                       b if nothing was found, and g of what was
+--     parted n f, divided f             the time with the denominator, and with the numerator, that was found
+--     time_in l, phase_in l             a time and a phase at the front of a text, with what stands behind it
+--     word_in word l                    a word
+--     passing b f                       the byte b behind what was found, and passed
+--     field_in read l                   what is read, in quotes or without
+--     ended f                           the end of a record behind what was found, and passed
+--     three_in r s t make l             a record of three fields
+--     heading_in l, entry_in l          the heading, and a train
+--     Listed                            the trains of a text, or its first bad record
+--     one_more e x                      one train in front of the others
+--     entries_from n k l                the records from record k on; n is no less than the bytes of l
+--     listed l                          what a text lists
+--     trains_of x                       the trains that are listed
+--     table_check es room               refusals 1 to 4 and 8 of the trains of a listing
+--     imported_after o k                the answer: the count, or the refusal that there is
+--     imported_of room x                the answer for what a text lists
+--     imported text room                what `import` answers
+--     imported_in answer text before    what it leaves in the row
+--     row_after text before             the same, with the answer that it gives
+--     export_check row room             all refusals of export
+--     exported_after o n                the answer: the length, or the refusal that there is
+--     exported row room                 what `export` answers
+--     exported_in answer row before     what it leaves in the buffer
+--     buffer_after row before           the same, with the answer that it gives
 use Rattle.std.specs.Prelude.{ℕ, zero, suc, ◌*◌, cond, List, [], ◌∷◌, ◌++◌, map, ltb, eqb, length, get_or, drop}
 use Rattle.refusal.specs.declared.Refusal.TheVariants.{TextTooLong, BufferTooShort, BadRecord}
 use Rattle.lent.specs.Words.{begins_with}

@@ -1,7 +1,7 @@
 -- When import and export refuse, in the request's words.
---     table_order es room      Import, behind 7 and 18: 1, then train by train 2, 3, 4, then 8
+--     table_order es room                     Import, behind 7 and 18: 1, then train by train 2, 3, 4, then 8
 --     ImportRefuses text room number place    Import: 7 by the length alone; then 18 for the first bad record; then the above
---     export_order row room    Export: 1, then train by train 2, 3, 4, then 8
+--     export_order row room                   Export: 1, then train by train 2, 3, 4, then 8
 use Rattle.std.specs.Prelude.{ℕ, ◌*◌, ◌<◌, ◌≤◌, List, [], ◌∷◌, ◌++◌, map, length}
 use Rattle.refusal.specs.declared.Refusal.TheVariants.{BufferTooShort}
 use Rattle.refusal.specs.Order.{Check, ◌when◌, Gives}

@@ -1,12 +1,12 @@
 -- The grammar of RFC 4180, with no algorithm. A byte is a number, and a text is a list of bytes.
---     quote, comma, return, newline   the bytes 34, 44, 13 and 10
---     TextData b               the byte may stand in a field without quotes
---     NonEscaped t             every byte of a text may
---     Inside v t               the text t, between quotes, stands for the value v
---     Field v t                the text t is a field with the value v
---     Record vs t              the text t is a record of fields with the values vs
---     Ends e rest              e is what may stand behind a record: nothing, or CRLF and then the rest
---     File rs t                the text t has the records rs, one behind another
+--     quote, comma, return, newline    the bytes 34, 44, 13 and 10
+--     TextData b                       the byte may stand in a field without quotes
+--     NonEscaped t                     every byte of a text may
+--     Inside v t                       the text t, between quotes, stands for the value v
+--     Field v t                        the text t is a field with the value v
+--     Record vs t                      the text t is a record of fields with the values vs
+--     Ends e rest                      e is what may stand behind a record: nothing, or CRLF and then the rest
+--     File rs t                        the text t has the records rs, one behind another
 use Rattle.std.specs.Prelude.{ℕ, ◌≤◌, List, [], ◌∷◌, ◌++◌}
 
 -- The byte of a line feed, LF.

@@ -6,8 +6,8 @@
 --     text_of es               the text of some trains
 --     longest_text             the bytes of the longest text that is read
 --     longest_export           the bytes of the longest text that is written
---     Small f, SmallEntry e   the numbers of a fraction, and those of a train, have 32 bits
---     HasDenominators e       no denominator of a train is 0
+--     Small f, SmallEntry e    the numbers of a fraction, and those of a train, have 32 bits
+--     HasDenominators e        no denominator of a train is 0
 use Rattle.std.specs.Prelude.{ℕ, ◌^◌, ◌<◌, cond, eqb}
 use mathlib.Core.List.{List, [], ◌∷◌, ◌++◌, flat_map}
 use Rattle.decimal.specs.Answer.{decimal}

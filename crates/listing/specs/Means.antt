@@ -1,20 +1,20 @@
 -- What good records are, and what a listing lists, with no algorithm.
---     slash                     the byte 47
---     fraction n m              n/m
---     Time v f                  the value v says the time f: n, or n/m with m not 0
---     blank_phase                what a blank phase means
---     Phase v f                 the value v says the phase f: a time, or blank
---     phase_word, period_word, duration_word   the three words
---     heading                   the values of the first record
---     entry f g h               the train with these times
---     Good vs e                 a record with the values vs says the train e
---     Fits k vs                 a record with the values vs may be the record with the number k, the heading being 1
---     FirstUnfit n k rs         of records with the numbers from n on, k is the first that may not be there
---     Goods rs es               records with these values say these trains
---     Listing t es              the text t lists the trains es
---     Passed n t rest           the first n records of the text t are good, and a further one begins where the rest begins
---     Stands k rest             a good record k stands at the front of the rest, with its end
---     BadAt k t                 record k is the first bad one of the text t
+--     slash                                     the byte 47
+--     fraction n m                              n/m
+--     Time v f                                  the value v says the time f: n, or n/m with m not 0
+--     blank_phase                               what a blank phase means
+--     Phase v f                                 the value v says the phase f: a time, or blank
+--     phase_word, period_word, duration_word    the three words
+--     heading                                   the values of the first record
+--     entry f g h                               the train with these times
+--     Good vs e                                 a record with the values vs says the train e
+--     Fits k vs                                 a record with the values vs may be the record with the number k, the heading being 1
+--     FirstUnfit n k rs                         of records with the numbers from n on, k is the first that may not be there
+--     Goods rs es                               records with these values say these trains
+--     Listing t es                              the text t lists the trains es
+--     Passed n t rest                           the first n records of the text t are good, and a further one begins where the rest begins
+--     Stands k rest                             a good record k stands at the front of the rest, with its end
+--     BadAt k t                                 record k is the first bad one of the text t
 use Rattle.std.specs.Prelude.{ℕ, suc, ◌<◌, ◌≡◌, List, [], ◌∷◌, ◌++◌}
 use Rattle.decimal.specs.Digits.{Number}
 use Rattle.fraction.specs.declared.Fraction.{Fraction}

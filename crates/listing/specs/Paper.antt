@@ -1,6 +1,6 @@
 -- What the paper has of an answer of import and of export: the train count or the length of the text, or a refusal.
---     paper_imported answer   what the paper has of an answer of `import`
---     paper_exported answer   what the paper has of an answer of `export`
+--     paper_imported answer    what the paper has of an answer of `import`
+--     paper_exported answer    what the paper has of an answer of `export`
 use Rattle.refusal.specs.Paper.{Said, answers, refusing}
 use Rattle.listing.specs.declared.Imported.{Imported}
 use Rattle.listing.specs.declared.Imported.TheVariants as imports

@@ -1,12 +1,14 @@
 // Listings from a spreadsheet: what import and export answer, and how long their texts are. What they mean and what is proved of
 // them stands in specs/; the calls are the crates `importer` and `exporter`.
+#![tactic(auto)]
+
 ghost use Rattle.std.specs.Prelude.{◌≡◌};
 ghost use Rattle.listing.specs.Layout.{longest_text, longest_export};
 
 use refusal::Refusal;
 
 // What `import` answers.
-#[derive(Drop)]
+#[derive(Clone, Copy)]
 pub enum Imported {
     // So many trains stand at the front of the row.
     Count(usize),
@@ -15,7 +17,7 @@ pub enum Imported {
 }
 
 // What `export` answers.
-#[derive(Drop)]
+#[derive(Clone, Copy)]
 pub enum Exported {
     // The listing stands at the front of the buffer, and has so many bytes.
     Length(usize),

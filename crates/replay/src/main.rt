@@ -24,7 +24,7 @@ const NEARLY_FULL: usize = ROOM - Played::LONGEST;
 
 // The dispatcher as the calls have left it, how many bytes of the line that is being read are kept, how many bytes of the
 // answers are still to be written, and whether the input may go on.
-#[derive(Drop)]
+#[derive(Clone, Copy)]
 struct Play {
     dispatcher: Dispatcher,
     kept: usize,
@@ -33,7 +33,7 @@ struct Play {
 }
 
 // Where a line ends in the input, and how many bytes of it are kept.
-#[derive(Drop)]
+#[derive(Clone, Copy)]
 struct Piece {
     end: usize,
     kept: usize,

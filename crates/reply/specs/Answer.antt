@@ -1,9 +1,9 @@
 -- The functions that the contracts cite: what is printed for a call on a dispatcher, and what becomes of the dispatcher.
---     shown_refusal r, shown_admission a, shown_withdrawal w, shown_tick t   what is printed for an answer of the code
---     shown d call             what is printed for the call of a line
---     after d call             the dispatcher after that call
---     reply_to d said           the printed line for a line of a script, which is read without its newline
---     played d said at room    what `play` answers
+--     shown_refusal r, shown_admission a, shown_withdrawal w, shown_tick t    what is printed for an answer of the code
+--     shown d call                                                            what is printed for the call of a line
+--     after d call                                                            the dispatcher after that call
+--     reply_to d said                                                         the printed line for a line of a script, which is read without its newline
+--     played d said at room                                                   what `play` answers
 use Rattle.std.specs.Prelude.{ℕ, ◌+◌, cond, List, ltb, length}
 use Rattle.refusal.specs.declared.Refusal.{Refusal}
 use Rattle.refusal.specs.declared.Refusal.TheVariants.{BufferTooShort}

@@ -1,6 +1,6 @@
 -- What is printed for an event of a dispatcher's log, with nothing of the code.
---     shown_doing doing     what is printed for what the processor does in a tick
---     shown_event event     what is printed for a call and its answer
+--     shown_doing doing    what is printed for what the processor does in a tick
+--     shown_event event    what is printed for a call and its answer
 use Rattle.dispatcher.specs.Calls as calls
 use Rattle.reply.specs.Lines.{Shown, place, withdrawn, idle, starts, goes_on, refuse}
 

@@ -1,6 +1,6 @@
 -- What the private functions promise. No public contract cites this file, and no caller need read it.
---     Wrote shown at before now answer          a printed line is written at an index, or finds no room there
---     Replied shown d at before now played      it is written, and the dispatcher is left so
+--     Wrote shown at before now answer        a printed line is written at an index, or finds no room there
+--     Replied shown d at before now played    it is written, and the dispatcher is left so
 use Rattle.std.specs.Prelude.{ℕ, ◌+◌, ◌≡◌, List, length}
 use Rattle.dispatcher.specs.declared.Dispatcher.{Dispatcher}
 use Rattle.line.specs.declared.Written.{Written}

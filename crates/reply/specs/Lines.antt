@@ -1,9 +1,9 @@
 -- What is printed for a line of a script: a word, and its numbers. A byte is a number, and a line is a list of bytes (ASCII).
---     Shown                one of the eight printed lines, with its numbers in their order
---     fresh_word, place_word, withdrawn_word, idle_word, starts_word, goes_on_word, bad_word   the words; `refuse` is that of `line`
---     line_of shown         the printed line, as bytes
---     Within shown         the numbers of a printed line are within their types
---     longest              the length of the longest line
+--     Shown                                                                                     one of the eight printed lines, with its numbers in their order
+--     fresh_word, place_word, withdrawn_word, idle_word, starts_word, goes_on_word, bad_word    the words; `refuse` is that of `line`
+--     line_of shown                                                                             the printed line, as bytes
+--     Within shown                                                                              the numbers of a printed line are within their types
+--     longest                                                                                   the length of the longest line
 use Rattle.std.specs.Prelude.{ℕ, ◌^◌, ◌<◌, List, [], ◌∷◌}
 use Rattle.line.specs.Answer.{refuse_word, text_of}
 

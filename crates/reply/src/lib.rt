@@ -1,5 +1,7 @@
 // From a line of a script to the line of its answer: the call that the line says is made on a dispatcher, and its answer is
 // written to a lent buffer. `play` has no `requires`: without room for the longest line nothing is called.
+#![tactic(auto)]
+
 ghost use Rattle.std.specs.Prelude.{◌≡◌, ◌+◌, ◌≤◌, ltb, length};
 ghost use Rattle.dispatcher.specs.Answer.{admission, withdrawal, stepping, fresh as fresh·record};
 ghost use Rattle.line.specs.Answer.{buffer_after};
@@ -13,7 +15,7 @@ use refusal::Refusal;
 use script::Call;
 
 // What `play` answers.
-#[derive(Drop)]
+#[derive(Clone, Copy)]
 pub struct Played {
     // Where the printed line ends, or that the buffer is too short.
     pub written: Written,

@@ -1,8 +1,8 @@
 -- The functions that the contracts cite: the row in lowest terms comes back, and the stored table byte by byte.
---     kept row room           what `save_and_load` answers
---     kept_in answer row before      what it leaves in the row
---     again bs room           what `load_and_save` answers
---     again_in answer bs before      what it leaves in the buffer
+--     kept row room                what `save_and_load` answers
+--     kept_in answer row before    what it leaves in the row
+--     again bs room                what `load_and_save` answers
+--     again_in answer bs before    what it leaves in the buffer
 use Rattle.std.specs.Prelude.{ℕ, ◌*◌, List, ◌++◌, ltb, length, drop}
 use Rattle.refusal.specs.declared.Refusal.TheVariants.{BufferTooShort}
 use Rattle.table.specs.Row.{numbers, longest_row, entries, lowest_row}

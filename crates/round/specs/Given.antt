@@ -1,6 +1,6 @@
 -- In which order the round trips look for their refusals, in the paper's words.
---     kept_order row room      1, the same train checks, 8 of the row that is loaded into
---     again_order bs room      the refusals of loading, 8 of the buffer that is saved to
+--     kept_order row room    1, the same train checks, 8 of the row that is loaded into
+--     again_order bs room    the refusals of loading, 8 of the buffer that is saved to
 use Rattle.std.specs.Prelude.{ℕ, ◌*◌, ◌<◌, List, [], ◌∷◌, ◌++◌, length}
 use Rattle.refusal.specs.declared.Refusal.TheVariants.{BufferTooShort}
 use Rattle.refusal.specs.Order.{Check, ◌when◌}

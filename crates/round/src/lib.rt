@@ -1,5 +1,7 @@
 // The round trips: a row that is saved and loaded again, and a stored table that is loaded and saved again. They are written
 // over the contracts of `save` and `load` alone, no public call has a `requires`, and what follows the last entry keeps its value.
+#![tactic(auto)]
+
 ghost use Rattle.std.specs.Prelude.{◌≡◌, length};
 ghost use Rattle.round.specs.Answer.{kept, kept_in, again, again_in};
 

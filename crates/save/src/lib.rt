@@ -1,5 +1,7 @@
 // Saving: a row is written as a stored table, in lowest terms. `save` has no `requires`; a refusal writes nothing, and what
 // follows the last byte written keeps its value.
+#![tactic(auto)]
+
 ghost use Rattle.std.specs.Prelude.{◌+◌, ◌*◌, ◌≤◌, ◌≡◌, length};
 ghost use mathlib.Core.List.{map, flat_map};
 ghost use Rattle.fraction.specs.Answer.{lowest};

@@ -1,10 +1,10 @@
 -- The functions that the contracts cite. Promises says what they have to do with the words of Says.
---     spaced_in text          the number that a space and digits say at the front of a text
---     single_of, single_in     that number, if nothing follows it
---     fresh_of, withdraw_of, step_of, delay_of, period_of, duration_of   the call with these numbers
---     spelt text             what a text says
---     text_length line        the bytes of a line without the CR at its end
---     call_in line            what `read` answers
+--     spaced_in text                                                      the number that a space and digits say at the front of a text
+--     single_of, single_in                                                that number, if nothing follows it
+--     fresh_of, withdraw_of, step_of, delay_of, period_of, duration_of    the call with these numbers
+--     spelt text                                                          what a text says
+--     text_length line                                                    the bytes of a line without the CR at its end
+--     call_in line                                                        what `read` answers
 use Rattle.std.specs.Prelude.{ℕ, ◌-◌, cond, List, [], ◌∷◌, ltb, eqb, length, get_or, take, drop}
 use Rattle.lent.specs.Words.{begins_with}
 use Rattle.decimal.specs.Answer.{Found, nothing, found, number_in}

@@ -1,11 +1,11 @@
 -- When a line says a call, with no algorithm. A byte is a number, and a text is a list of bytes (ASCII).
 -- What a number is, one or more digits of a value below 2^32, decimal says: `Number` of its Digits.
---     space, return             the bytes 32 and 13
---     fresh_word, admit_word, withdraw_word, step_word   the four words
---     Spells text call          the text is the word of a call and its numbers, after a single space each
---     longest                   80, the bytes of the longest text that says a call
---     Ending bytes              what may stand between the text and the newline: nothing, or one CR
---     Says line call            the line, without its newline, says the call
+--     space, return                                       the bytes 32 and 13
+--     fresh_word, admit_word, withdraw_word, step_word    the four words
+--     Spells text call                                    the text is the word of a call and its numbers, after a single space each
+--     longest                                             80, the bytes of the longest text that says a call
+--     Ending bytes                                        what may stand between the text and the newline: nothing, or one CR
+--     Says line call                                      the line, without its newline, says the call
 use Rattle.std.specs.Prelude.{ℕ, ◌≤◌, List, [], ◌∷◌, ◌++◌, length}
 use Rattle.decimal.specs.Digits.{Number}
 use Rattle.script.specs.declared.Call.{Call}

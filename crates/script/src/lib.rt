@@ -1,5 +1,7 @@
 // Reads a line that says a call of a dispatcher: `fresh C`, `admit DELAY PERIOD DURATION`, `withdraw PLACE` or `step C`.
 // `read` has no `requires`: of a line that says no call it answers `Bad`.
+#![tactic(auto)]
+
 ghost use Rattle.std.specs.Prelude.{◌≡◌, ◌≤◌, length, drop};
 ghost use Rattle.decimal.specs.Inside.{found_at};
 ghost use Rattle.script.specs.Says.{longest};
@@ -9,7 +11,7 @@ ghost use Rattle.script.specs.Answer.{spelt, text_length, call_in};
 use decimal::Number;
 
 // What a line says.
-#[derive(Drop)]
+#[derive(Clone, Copy)]
 pub enum Call {
     // No call.
     Bad,
@@ -25,7 +27,7 @@ impl Call {
 }
 
 // One number and nothing behind it.
-#[derive(Drop)]
+#[derive(Clone, Copy)]
 enum Single {
     Missing,
     Found(u32),

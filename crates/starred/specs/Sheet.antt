@@ -1,12 +1,12 @@
 -- The starred rows of the paper's bench sheet, in its order, the bytes of its 36/13 table, and its paragraph on the dispatcher.
---     Line                    a table, and what the paper prints for it
---     whole p P d             a train of whole milliseconds: phase, period, duration
---     parts m p P d           a train whose times are all over the denominator m
---     thirteenths             the row of the 36/13 table
---     sheet                   the starred rows
---     thirteenths_bytes        the bytes in which the 36/13 table is stored
---     paragraph               the calls of the dispatcher's paragraph, after its fresh start
---     answers                 what they are answered
+--     Line                 a table, and what the paper prints for it
+--     whole p P d          a train of whole milliseconds: phase, period, duration
+--     parts m p P d        a train whose times are all over the denominator m
+--     thirteenths          the row of the 36/13 table
+--     sheet                the starred rows
+--     thirteenths_bytes    the bytes in which the 36/13 table is stored
+--     paragraph            the calls of the dispatcher's paragraph, after its fresh start
+--     answers              what they are answered
 use Rattle.std.specs.Prelude.{ℕ, List, [], ◌∷◌, ◌++◌}
 use Rattle.judge.specs.Paper.{Shown, accept, collide, refuse}
 use Rattle.dispatcher.specs.Calls.{Call, admit, step, starts, Event, admitted, stepped, refused}

@@ -1,6 +1,6 @@
 -- What the paper has of an answer of saving and of loading: the length of the file or the train count, or a refusal.
---     paper_saved answer   what the paper has of an answer of `save`
---     paper_loaded answer  what the paper has of an answer of `load`
+--     paper_saved answer     what the paper has of an answer of `save`
+--     paper_loaded answer    what the paper has of an answer of `load`
 use Rattle.refusal.specs.Paper.{Said, answers, refusing}
 use Rattle.stored.specs.declared.Saved.{Saved}
 use Rattle.stored.specs.declared.Saved.TheVariants as saves

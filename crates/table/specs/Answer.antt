@@ -1,25 +1,25 @@
 -- The functions that the contracts cite. Promises says what they have to do with the words of Row and Given.
---     test b r                one refusal: r where the test says so
---     or_else o p              the first of two outcomes that is a refusal
---     first_refusal check i es the first refusal of some trains, the first of which is at position i
---     no_denominator e         whether a denominator is 0
---     no_time e                whether period or duration is 0
---     entry_check i e          refusals 2, 3, 4 of the train at position i, as `Entry::check` answers them
---     checked row             refusals 1 to 4, as `check` answers them
---     is_above m               whether a multiple is above the limit
---     multiple_check es i e    refusal 5 of the train at position i
---     multiple_checked es      refusal 5 of a table
---     too_many ticks           whether a time is not within the limit
---     too_long unit e          whether a train has such a time
---     ticks_check unit i e     refusal 6 of the train at position i
---     ticks_checked unit es    refusal 6 of a table
---     refusal row             refusals 1 to 6
---     no_train                 what stands in the array where there is no train
---     filled ts               the array of some trains
---     table_of unit es         the table of some trains as fractions
---     refused r               what is read after a refusal
---     read_after o table       a table, or the refusal that there is
---     reading row             the table of a row, as `read` answers it
+--     test b r                    one refusal: r where the test says so
+--     or_else o p                 the first of two outcomes that is a refusal
+--     first_refusal check i es    the first refusal of some trains, the first of which is at position i
+--     no_denominator e            whether a denominator is 0
+--     no_time e                   whether period or duration is 0
+--     entry_check i e             refusals 2, 3, 4 of the train at position i, as `Entry::check` answers them
+--     checked row                 refusals 1 to 4, as `check` answers them
+--     is_above m                  whether a multiple is above the limit
+--     multiple_check es i e       refusal 5 of the train at position i
+--     multiple_checked es         refusal 5 of a table
+--     too_many ticks              whether a time is not within the limit
+--     too_long unit e             whether a train has such a time
+--     ticks_check unit i e        refusal 6 of the train at position i
+--     ticks_checked unit es       refusal 6 of a table
+--     refusal row                 refusals 1 to 6
+--     no_train                    what stands in the array where there is no train
+--     filled ts                   the array of some trains
+--     table_of unit es            the table of some trains as fractions
+--     refused r                   what is read after a refusal
+--     read_after o table          a table, or the refusal that there is
+--     reading row                 the table of a row, as `read` answers it
 use Rattle.std.specs.Prelude.{ℕ, suc, ◌-◌, ◌%◌, Bool, true, false, not, ◌||◌, List, [], ◌∷◌, ◌++◌, map, ltb, eqb, length, take, replicate}
 use Rattle.refusal.specs.declared.Refusal.{Refusal}
 use Rattle.refusal.specs.declared.Refusal.TheVariants.{TrainCount, ZeroDenominator, ZeroTime, DurationAbovePeriod, TickTooFine, TimeTooLong}

@@ -1,30 +1,30 @@
 -- What stands in a row, in the words of the paper's "Fractions and the tick".
---     Words row               every number of a row has 32 bits
---     capacity                the most trains of a table
---     numbers                 the numbers of a train in a row
---     longest_row              the numbers of the longest row
---     record_length            the bytes of a train in a stored table
---     time_at row at           the fraction whose numerator stands at an index
---     entry_at row at          the phase, period and duration of the train whose numbers begin at an index
---     entries_of n row         the first n trains of a row as fractions
---     entries row             all its trains as fractions, in their order
---     no_entry                 what stands for an entry where there is none
---     numbers_of e             the six numbers of a train
---     row_of es                the row of some trains
---     lowest_entry e           a train with its times in lowest terms
---     lowest_row row           the trains of a row in lowest terms, as a row
---     denominators_of e        the denominators of one train after reduction
---     denominators es         those of all trains
---     multiple es             the paper's L
---     tick es                 the common tick, 1/L ms
---     whole ticks             the number of a whole number of ticks
---     ticks_of unit time       how many ticks a time is
---     train_of unit e          a train in ticks
---     trains row              the trains of a row in ticks of its own tick
---     ExactTrain unit e t     train t is entry e in ticks, with nothing lost
---     SameTime f h            two fractions stand for one time
---     SameEntry e f           two trains whose times are the same
---     SameRow row row'        two rows that differ at most in the terms of their fractions
+--     Words row              every number of a row has 32 bits
+--     capacity               the most trains of a table
+--     numbers                the numbers of a train in a row
+--     longest_row            the numbers of the longest row
+--     record_length          the bytes of a train in a stored table
+--     time_at row at         the fraction whose numerator stands at an index
+--     entry_at row at        the phase, period and duration of the train whose numbers begin at an index
+--     entries_of n row       the first n trains of a row as fractions
+--     entries row            all its trains as fractions, in their order
+--     no_entry               what stands for an entry where there is none
+--     numbers_of e           the six numbers of a train
+--     row_of es              the row of some trains
+--     lowest_entry e         a train with its times in lowest terms
+--     lowest_row row         the trains of a row in lowest terms, as a row
+--     denominators_of e      the denominators of one train after reduction
+--     denominators es        those of all trains
+--     multiple es            the paper's L
+--     tick es                the common tick, 1/L ms
+--     whole ticks            the number of a whole number of ticks
+--     ticks_of unit time     how many ticks a time is
+--     train_of unit e        a train in ticks
+--     trains row             the trains of a row in ticks of its own tick
+--     ExactTrain unit e t    train t is entry e in ticks, with nothing lost
+--     SameTime f h           two fractions stand for one time
+--     SameEntry e f          two trains whose times are the same
+--     SameRow row row'       two rows that differ at most in the terms of their fractions
 use Rattle.std.specs.Prelude.{ℕ, zero, suc, ◌+◌, ◌*◌, ◌/◌, ◌<◌, ◌≡◌, ◌⊎◌, length, get_or, drop}
 use mathlib.Core.List.{List, [], ◌∷◌, ◌++◌, map, flat_map}
 use Rattle.fraction.specs.declared.Fraction.{Fraction}

@@ -1,5 +1,7 @@
 // A row of six numbers a train, read as a table: refusals 1 to 6 in the paper's order, the common tick 1/L, and the
 // trains in whole ticks. No public call has a `requires`: every row of 32-bit numbers has its answer.
+#![tactic(auto)]
+
 ghost use Rattle.std.specs.Prelude.{◌+◌, ◌*◌, ◌≤◌, ◌≡◌, length, get_or};
 ghost use Rattle.lent.specs.Lent.{fitted};
 ghost use Rattle.fraction.specs.Answer.{whole_ticks, running_from, running};
@@ -14,7 +16,7 @@ use refusal::Refusal;
 use train::Train;
 
 // The three times of one train in milliseconds, as they stand in a row.
-#[derive(Drop)]
+#[derive(Clone, Copy)]
 pub struct Entry {
     pub phase: Fraction,
     pub period: Fraction,
@@ -22,14 +24,14 @@ pub struct Entry {
 }
 
 // Whether there is a refusal.
-#[derive(Drop)]
+#[derive(Clone, Copy)]
 pub enum Outcome {
     Passed,
     Refused(Refusal),
 }
 
 // The trains of a row in ticks. Behind the last one the array holds zeros.
-#[derive(Drop)]
+#[derive(Clone, Copy)]
 pub struct Table {
     pub tick: Fraction,
     pub count: usize,
@@ -37,28 +39,28 @@ pub struct Table {
 }
 
 // The table of a row; after a refusal it has no train.
-#[derive(Drop)]
+#[derive(Clone, Copy)]
 pub struct Reading {
     pub outcome: Outcome,
     pub table: Table,
 }
 
 // L, where there is no refusal 5.
-#[derive(Drop)]
+#[derive(Clone, Copy)]
 struct Common {
     outcome: Outcome,
     multiple: u32,
 }
 
 // One time in ticks, within the limit of a train.
-#[derive(Drop)]
+#[derive(Clone, Copy)]
 enum Time {
     TooLong,
     Within(u32),
 }
 
 // One train in ticks, within the limits.
-#[derive(Drop)]
+#[derive(Clone, Copy)]
 enum Timed {
     TooLong,
     InTicks(Train),

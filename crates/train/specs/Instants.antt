@@ -2,8 +2,8 @@
 -- `early` has the earlier phase, p1 <= p2; u and v are any numbers of Bezout's statement, P1·u = P2·v + g.
 --     train p P d                   the train with these three times, as the paper writes it: (p,P,d)
 --     quotient early late           q, where p2 - p1 = g·q + r: the whole divisors between the phases
---     instant_late early late v      (10): p2 + v·q·P2, a stroke of the later train
---     instant_early early late u     (12): p1 + P1·u·(q + 1), a stroke of the earlier one
+--     instant_late early late v     (10): p2 + v·q·P2, a stroke of the later train
+--     instant_early early late u    (12): p1 + P1·u·(q + 1), a stroke of the earlier one
 use Rattle.std.specs.Prelude.{ℕ, ◌+◌, ◌*◌, ◌-◌, ◌/◌}
 use Rattle.euclid.specs.Answer.{gcd}
 use Rattle.train.specs.declared.Train.{Train}

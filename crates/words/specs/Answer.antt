@@ -2,13 +2,13 @@
 -- of the place that the call changes, and those behind the places, are written; a refused call writes none.
 --     admission_in ws delay P d, withdrawal_in ws q, stepping_in ws count
 --                             what the record that the words stand for answers
---     fresh_in count           the words of a fresh start
---     at_place d q             what stands at a place of a record
---     both_over ws q d         the words with place q and what stands behind the places of a record
+--     fresh_in count                          the words of a fresh start
+--     at_place d q                            what stands at a place of a record
+--     both_over ws q d                        the words with place q and what stands behind the places of a record
 --     admitted_by, withdrew_by, stepped_by    the words after a call, by its answer and the record after it
---     admitted_in a ws         the words after an admission
---     withdrew_in q w ws       the words after a withdrawal from place q
---     stepped_in s ws          the words after a step
+--     admitted_in a ws                        the words after an admission
+--     withdrew_in q w ws                      the words after a withdrawal from place q
+--     stepped_in s ws                         the words after a step
 use Rattle.std.specs.Prelude.{ℕ, List, slice_index_or}
 use Rattle.dispatcher.specs.declared.Place.{Place}
 use Rattle.dispatcher.specs.declared.Dispatcher.{Dispatcher}

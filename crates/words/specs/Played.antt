@@ -1,6 +1,6 @@
 -- What is answered on words through a list of calls, as a log, in the words of the dispatcher's own.
---     words_after ws call      the words after a call
---     log_in ws calls          the log of some calls
+--     words_after ws call    the words after a call
+--     log_in ws calls        the log of some calls
 use Rattle.std.specs.Prelude.{ℕ, List, [], ◌∷◌}
 use Rattle.dispatcher.specs.Calls.{Call, admit, withdraw, step, Event}
 use Rattle.dispatcher.specs.Played.{event_of}

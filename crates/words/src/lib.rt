@@ -1,6 +1,8 @@
 // The dispatcher in words of 32 bits that the caller lends, for programs in other languages. The words stand for a record of
 // the crate `dispatcher`, whatever they are; each call works in place, answers what the record's call answers, and leaves
 // the words of the record after it. No public call has a `requires`.
+#![tactic(auto)]
+
 ghost use Rattle.std.specs.Prelude.{◌≡◌, ◌+◌, ◌*◌, ◌<◌, ◌≤◌, [], ◌∷◌};
 ghost use Rattle.std.proofs.lemmas.List.Edits.{sets};
 ghost use Rattle.dispatcher.specs.History.{place_count};
