@@ -1,6 +1,5 @@
 -- `method` meets its contract: at a zero it has ended, and otherwise it calls itself after one remainder more.
 -- The measure is the second number, which falls to the remainder.
-use Prim.Native.Nat.{ℕ, ◌<◌}
 use mathlib.Core.Path.{◌∙◌}
 use native.Mathlib.Nat.{mod-lt, pos_of_ne-zero}
 use native.Mathlib.Omega.{arith}

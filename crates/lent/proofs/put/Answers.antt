@@ -1,5 +1,4 @@
 -- `put` meets its contract: without room nothing is written, else one byte after the other. The measure is the bytes that are left.
-use Prim.Native.Nat.{◌-◌}
 use native.Mathlib.Omega.{arith}
 use Rattle.lent.proofs.Over.{put_short}
 use Rattle.lent.proofs.Records.{copying_begins, copying_on, copying_ends}

@@ -1,6 +1,5 @@
 -- `stands` meets its contract. The loop's invariant: what is left of the word begins what is left of the text just where the
 -- word begins the text. The measure is the letters that are left.
-use Prim.Native.Nat.{◌-◌}
 use mathlib.Core.Path.{refl, ◌∙◌}
 use Rattle.lent.proofs.Words.{begins_all, begins_short, begins_other, begins_on}
 use Rattle.lent.proofs.stands.Goals as goal
