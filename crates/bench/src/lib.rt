@@ -233,8 +233,7 @@ fn hand_tick(tick: Tick) -> u64
 }
 
 // The verdict on a row.
-#[unsafe(no_mangle)]
-pub extern "C" fn urzabelki_judge(row: &[u32], figures: &mut [u64; FIGURES]) -> u64
+pub fn urzabelki_judge(row: &[u32], figures: &mut [u64; FIGURES]) -> u64
     ensures answer { result ≡ verdict_code (verdict row.now) }
     ensures memory { figures.new ≡ figures_in (verdict row.now) figures.old }
     ensures constants { FIGURES ≡ figure_count }
@@ -243,8 +242,7 @@ pub extern "C" fn urzabelki_judge(row: &[u32], figures: &mut [u64; FIGURES]) -> 
 }
 
 // The verdict on a stored table.
-#[unsafe(no_mangle)]
-pub extern "C" fn urzabelki_judge_stored(bytes: &[u8], figures: &mut [u64; FIGURES]) -> u64
+pub fn urzabelki_judge_stored(bytes: &[u8], figures: &mut [u64; FIGURES]) -> u64
     ensures answer { result ≡ verdict_code (file_verdict bytes.now) }
     ensures memory { figures.new ≡ figures_in (file_verdict bytes.now) figures.old }
 {
@@ -252,8 +250,7 @@ pub extern "C" fn urzabelki_judge_stored(bytes: &[u8], figures: &mut [u64; FIGUR
 }
 
 // The printed line of the verdict on a row.
-#[unsafe(no_mangle)]
-pub extern "C" fn urzabelki_line(row: &[u32], text: &mut [u8]) -> u64
+pub fn urzabelki_line(row: &[u32], text: &mut [u8]) -> u64
     ensures answer { result ≡ written_code (written (verdict row.now) (length text.old)) }
     ensures memory { text.new ≡ written_in (written (verdict row.now) (length text.old)) (verdict row.now) text.old }
     ensures constants { LONGEST_LINE ≡ longest_line }
@@ -262,8 +259,7 @@ pub extern "C" fn urzabelki_line(row: &[u32], text: &mut [u8]) -> u64
 }
 
 // The printed line of the verdict on a stored table.
-#[unsafe(no_mangle)]
-pub extern "C" fn urzabelki_line_stored(bytes: &[u8], text: &mut [u8]) -> u64
+pub fn urzabelki_line_stored(bytes: &[u8], text: &mut [u8]) -> u64
     ensures answer { result ≡ written_code (written (file_verdict bytes.now) (length text.old)) }
     ensures memory { text.new ≡ written_in (written (file_verdict bytes.now) (length text.old)) (file_verdict bytes.now) text.old }
 {
@@ -271,8 +267,7 @@ pub extern "C" fn urzabelki_line_stored(bytes: &[u8], text: &mut [u8]) -> u64
 }
 
 // Saves a row as a stored table.
-#[unsafe(no_mangle)]
-pub extern "C" fn urzabelki_save(row: &[u32], bytes: &mut [u8]) -> u64
+pub fn urzabelki_save(row: &[u32], bytes: &mut [u8]) -> u64
     ensures answer { result ≡ saved_code (saved row.now (length bytes.old)) }
     ensures memory { bytes.new ≡ saved_in (saved row.now (length bytes.old)) row.now bytes.old }
 {
@@ -280,8 +275,7 @@ pub extern "C" fn urzabelki_save(row: &[u32], bytes: &mut [u8]) -> u64
 }
 
 // Loads a stored table to a row.
-#[unsafe(no_mangle)]
-pub extern "C" fn urzabelki_load(bytes: &[u8], row: &mut [u32]) -> u64
+pub fn urzabelki_load(bytes: &[u8], row: &mut [u32]) -> u64
     ensures answer { result ≡ loaded_code (loaded bytes.now (length row.old)) }
     ensures memory { row.new ≡ loaded_in (loaded bytes.now (length row.old)) bytes.now row.old }
 {
@@ -289,8 +283,7 @@ pub extern "C" fn urzabelki_load(bytes: &[u8], row: &mut [u32]) -> u64
 }
 
 // The import of a listing: the count of its trains, in lowest terms.
-#[unsafe(no_mangle)]
-pub extern "C" fn urzabelki_import(text: &[u8], row: &mut [u32]) -> u64
+pub fn urzabelki_import(text: &[u8], row: &mut [u32]) -> u64
     ensures answer { result ≡ imported_code (imported text.now (length row.old)) }
     ensures memory { row.new ≡ imported_in (imported text.now (length row.old)) text.now row.old }
 {
@@ -298,8 +291,7 @@ pub extern "C" fn urzabelki_import(text: &[u8], row: &mut [u32]) -> u64
 }
 
 // The export of a row: the length of its listing.
-#[unsafe(no_mangle)]
-pub extern "C" fn urzabelki_export(row: &[u32], text: &mut [u8]) -> u64
+pub fn urzabelki_export(row: &[u32], text: &mut [u8]) -> u64
     ensures answer { result ≡ exported_code (exported row.now (length text.old)) }
     ensures memory { text.new ≡ exported_in (exported row.now (length text.old)) row.now text.old }
 {
@@ -307,16 +299,14 @@ pub extern "C" fn urzabelki_export(row: &[u32], text: &mut [u8]) -> u64
 }
 
 // A dispatcher without a train.
-#[unsafe(no_mangle)]
-pub extern "C" fn urzabelki_fresh(words: &mut [u32; words::LENGTH], count: u32)
+pub fn urzabelki_fresh(words: &mut [u32; words::LENGTH], count: u32)
     ensures { words.new ≡ fresh_in count }
 {
     words::fresh(words, count)
 }
 
 // Admits a train.
-#[unsafe(no_mangle)]
-pub extern "C" fn urzabelki_admit(
+pub fn urzabelki_admit(
     words: &mut [u32; words::LENGTH],
     delay: u32,
     period: u32,
@@ -329,8 +319,7 @@ pub extern "C" fn urzabelki_admit(
 }
 
 // Empties a place.
-#[unsafe(no_mangle)]
-pub extern "C" fn urzabelki_withdraw(words: &mut [u32; words::LENGTH], place: u32) -> u64
+pub fn urzabelki_withdraw(words: &mut [u32; words::LENGTH], place: u32) -> u64
     ensures answer { result ≡ withdrawal_code (withdrawal_in words.old place).answer }
     ensures memory { words.new ≡ withdrew_in place (withdrawal_in words.old place) words.old }
 {
@@ -338,8 +327,7 @@ pub extern "C" fn urzabelki_withdraw(words: &mut [u32; words::LENGTH], place: u3
 }
 
 // One tick.
-#[unsafe(no_mangle)]
-pub extern "C" fn urzabelki_step(words: &mut [u32; words::LENGTH], count: u32) -> u64
+pub fn urzabelki_step(words: &mut [u32; words::LENGTH], count: u32) -> u64
     ensures answer { result ≡ tick_code (stepping_in words.old count).answer }
     ensures memory { words.new ≡ stepped_in (stepping_in words.old count) words.old }
 {
