@@ -6,7 +6,6 @@ use native.Mathlib.Omega.{arith}
 use Rattle.euclid.specs.Divisor.{Bezout}
 use Rattle.euclid.specs.Answer.{euclid_within, euclid, gcd, lcm}
 use Rattle.train.specs.declared.Train.{Train}
-use Rattle.train.specs.declared.CommonTick.TheVariants.{At}
 use Rattle.train.specs.Claims.{Limits, Both, Least}
 use Rattle.train.specs.Instants.{train, instant_late, instant_early}
 use Rattle.train.specs.Answer.{within_limits, claims, both, first_from, earliest}
