@@ -34,8 +34,8 @@ module _ (b : ℕ) where
       go true e g = absurd (let z : ◌≡◌ {A = ℕ} 0 1 = cc in omega arith)
       go false e g = ltb-false b 48 e
 
-pub is_digit : (b : ℕ) → is_digit b ≡ true → Digit b
-is_digit b e = record { from = is_from b e; to = leb-true b 57 (digit_from b (is_from b e) ∙ e) }
+pub digit_of : (b : ℕ) → is_digit b ≡ true → Digit b
+digit_of b e = record { from = is_from b e; to = leb-true b 57 (digit_from b (is_from b e) ∙ e) }
 
 pub digit_is : (b : ℕ) → Digit b → is_digit b ≡ true
 digit_is b d = sym (digit_from b d.from) ∙ le-leb b 57 d.to
@@ -44,7 +44,7 @@ pub no_digit : (b : ℕ) → (Digit b → ⊥) → is_digit b ≡ false
 no_digit b n = go (is_digit b) refl
   where
     go : (t : Bool) → is_digit b ≡ t → t ≡ false
-    go true e = absurd (n (is_digit b e))
+    go true e = absurd (n (digit_of b e))
     go false e = refl
 
 pub digit_not : (b : ℕ) → is_digit b ≡ false → Digit b → ⊥
@@ -90,7 +90,7 @@ digits_found v (b ∷ bs) h = go (is_digit b) refl (ltb (longer v b) (2 ^ 32)) r
         (t : Bool) → is_digit b ≡ t → (u : Bool) → ltb (longer v b) (2 ^ 32) ≡ u →
         (longer v b < 2 ^ 32 → AsFound (longer v b) bs (digits_from (longer v b) bs)) →
         AsFound v (b ∷ bs) (cond t (cond u (digits_from (longer v b) bs) nothing) (found v (b ∷ bs)))
-    go true e true g next = one_more v b bs (digits_from (longer v b) bs) (is_digit b e) (next (ltb-true _ _ g))
+    go true e true g next = one_more v b bs (digits_from (longer v b) bs) (digit_of b e) (next (ltb-true _ _ g))
     go true e false g next = tt
     go false e u g next = record { ds = []; digits = none; whole = refl; stands_for = refl; small = h; stops = digit_not b e }
 
@@ -124,7 +124,7 @@ AsNumber l (found n rest) = Numbered l n rest
 
 -- digits that begin with a digit are some
 some_digits : (l ds rest : List ℕ) → is_digit (get_or l 0 0) ≡ true → l ≡ ds ++ rest → Stops rest → 0 < length ds
-some_digits l [] rest e w s = absurd (s (is_digit _ (sym (ap (λ (r : List ℕ). is_digit (get_or r 0 0)) w) ∙ e)))
+some_digits l [] rest e w s = absurd (s (digit_of _ (sym (ap (λ (r : List ℕ). is_digit (get_or r 0 0)) w) ∙ e)))
 some_digits l (d ∷ ds) rest e w s = omega arith
 
 numbered : (l : List ℕ) (f : Found ℕ) → is_digit (get_or l 0 0) ≡ true → AsFound 0 l f → AsNumber l f
