@@ -1,4 +1,4 @@
-//! Links the proved library, target/staticlib/libbench.a, which `rt staticlib bench` builds, and takes the numbers of
+//! Links the proved library, target/staticlib/libbench.a, which `./urzabelki library` builds, and takes the numbers of
 //! include/urzabelki.h, so that none of them is written a second time. `speed` is built by this file too.
 
 use std::path::{Path, PathBuf};
