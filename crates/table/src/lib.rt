@@ -336,8 +336,8 @@ pub fn read(row: &[u32]) -> Reading
     ensures value { result ≡ reading row.now }
     ensures capacity { Table.CAPACITY ≡ capacity }
     ensures numbers { Table.NUMBERS ≡ numbers }
-    ensures longest { Table.LONGEST_ROW ≡ longest_row }
-    ensures record { Table.RECORD_LENGTH ≡ record_length }
+    ensures longest_row { Table.LONGEST_ROW ≡ longest_row }
+    ensures record_length { Table.RECORD_LENGTH ≡ record_length }
 {
     let checked = check(row);
     match checked {
