@@ -11,7 +11,7 @@ use native.Mathlib.Omega.{arith}
 use lib.ListN.{length, get_or, replicate}
 use Rattle.refusal.specs.declared.Refusal.{Refusal}
 use Rattle.train.specs.declared.Train.{Train}
-use Rattle.train.specs.Claims.{Limits, Collide}
+use Rattle.train.specs.Claims.{Limits}
 use Rattle.train.specs.Answer.{free, earliest}
 use Rattle.table.specs.declared.Outcome.{Outcome}
 use Rattle.table.specs.declared.Outcome.TheVariants.{Passed, Refused}
