@@ -133,6 +133,7 @@ unfit_one (there s u) (here t) = absurd (t s)
 unfit_one (there s u) (there t v) = unfit_one u v
 
 goods_fit : {n k : ℕ} {rs : List (List (List ℕ))} {es : List Entry} → 1 < n → Goods rs es → FirstUnfit n k rs → ⊥
+goods_fit h Goods.none m = elim m [ ]
 goods_fit h (Goods.more g gs) (here s) = s (later h g)
 goods_fit h (Goods.more g gs) (there s u) = goods_fit (omega arith) gs u
 

@@ -166,6 +166,7 @@ module _ {A B : Type 0} (C D E : List ℕ → A → Type 0) (make : A → A → 
       three_in read-c read-d read-e make (l ++ e) ≡ found (make x y z) rest
   record_read p q r l e rest x y z (Record.more {t = s} a (Record.more {t = t} b (Record.last {t = u} c))) f g h k =
       fields_read p q r s t u e rest x y z a b c f g h k
+  record_read p q r l e rest x y z (Record.more a (Record.more b (Record.more c m))) f g h k = elim m [ ]
 
   pub three_read :
       (vs : List (List ℕ)) (l e rest : List ℕ) (b : B) → Record vs l → Three C D E make vs b → Ends e rest →
