@@ -222,6 +222,7 @@ text_is text [] d plain =
 text_is text (r ∷ []) d returned =
     let long : length (text ++ return ∷ []) - 1 ≡ length text = omega (arith, length-append text (return ∷ [])) in
     rw (long, get_or-append_seam text return [] 0)
+text_is text (r ∷ (_ ∷ _)) d none = elim none [ ]
 
 pub says_read : {line : List ℕ} {call : Call} → Says line call → call_in line ≡ call
 unfolding call_in
