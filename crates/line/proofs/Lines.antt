@@ -3,14 +3,14 @@
 -- Assumes nothing.
 use Prim.Native.Nat.{ℕ, ◌+◌, ◌<◌, ◌≤◌}
 use mathlib.Core.Path.{◌≡◌, refl, sym, ap, subst, ◌∙◌}
-use mathlib.Core.Bool.{Bool, true, false, not, cond}
+use mathlib.Core.Bool.{Bool, true, false, cond}
 use mathlib.Core.Logic.{◌↔◌}
 use mathlib.Core.List.{List, [], ◌∷◌, ◌++◌}
 use native.Mathlib.Nat.{zero-add}
 use native.Mathlib.Omega.{arith}
 use lib.Dec.{ltb, leb}
 use lib.ListN.{length, length-append}
-use borrow.Author.Tests.{ltb-true, lt-ltb, le-ltb, leb-true, leb-false, not-true, not-false}
+use borrow.Author.Tests.{ltb-true, lt-ltb, le-ltb, leb-true, leb-false}
 use Rattle.refusal.specs.declared.Refusal.{Refusal}
 use Rattle.refusal.specs.declared.Refusal.TheVariants.{BufferTooShort}
 use Rattle.refusal.specs.Paper as refusals
@@ -131,11 +131,11 @@ write_answers v room h =
     put_answers (line_of v) 0 room (omega arith) ∙ ap refusals.answers (zero-add (length (line_of v)))
 
 -- what the test of the numbers says
-pub numbers_fit : (n room : ℕ) (fits : Bool) → fits ≡ leb n room → not fits ≡ false → n ≤ room
-numbers_fit n room fits e t = leb-true n room (sym e ∙ not-false fits t)
+pub numbers_fit : (n room : ℕ) (fits : Bool) → fits ≡ leb n room → fits ≡ true → n ≤ room
+numbers_fit n room fits e t = leb-true n room (sym e ∙ t)
 
-pub numbers_short : (n room : ℕ) (fits : Bool) → fits ≡ leb n room → not fits ≡ true → room < n
-numbers_short n room fits e t = leb-false n room (sym e ∙ not-true fits t)
+pub numbers_short : (n room : ℕ) (fits : Bool) → fits ≡ leb n room → fits ≡ false → room < n
+numbers_short n room fits e t = leb-false n room (sym e ∙ t)
 
 -- a text without room
 pub put_none :
@@ -178,24 +178,18 @@ refuse_line refusal number place p q = λ i. text_of refuse_word (p i ∷ q i �
 
 -- what `put` wrote at the front for the verdict that was matched is what `write` promises
 pub put_line :
-    (verdict matched : Verdict) (text before after : List ℕ) (answer : Written) (most : ℕ) → most ≡ longest →
+    (verdict matched : Verdict) (text before after : List ℕ) (answer : Written) →
     verdict ≡ matched → Within (paper matched) → text ≡ line_of matched →
     answer ≡ answer_for text 0 (length before) → after ≡ buffer_after answer text 0 before →
     (answer ≡ written verdict (length before))
-    × ((after ≡ written_in answer verdict before)
-    × ((most ≡ longest) × (longest ≤ length before → answer ≡ Length (length (line_of verdict)))))
-put_line verdict matched text before after answer most m v within t a b =
+    × (after ≡ written_in answer verdict before)
+    × (longest ≤ length before → answer ≡ Length (length (line_of verdict)))
+put_line verdict matched text before after answer v within t a b =
     let e : text ≡ line_of verdict = t ∙ ap line_of (sym v) in
     let fits : length (line_of verdict) ≤ longest =
     subst (λ (w : Verdict). length (line_of w) ≤ longest) (sym v) (line_fits (paper matched) within) in
     let said : answer ≡ written verdict (length before) = a ∙ ap (λ (l : List ℕ). answer_for l 0 (length before)) e in (
       said,
-      (
-        b ∙ ap (λ (l : List ℕ). buffer_after answer l 0 before) e,
-        (
-          m,
-          λ h.
-              said ∙ answer_room (line_of verdict) 0 (length before) (omega arith) ∙ ap Length (zero-add (length (line_of verdict))),
-        ),
-      ),
+      b ∙ ap (λ (l : List ℕ). buffer_after answer l 0 before) e,
+      λ h. said ∙ answer_room (line_of verdict) 0 (length before) (omega arith) ∙ ap Length (zero-add (length (line_of verdict))),
     )
