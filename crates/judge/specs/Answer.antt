@@ -19,7 +19,7 @@ use Rattle.judge.specs.declared.Verdict.{Verdict}
 use Rattle.judge.specs.declared.Verdict.TheVariants.{Accepted, Collide, Refused}
 use Rattle.judge.specs.Pairs.{train_at, Places, pairs, divisions_of}
 
--- The tick of a pair. (A pair that collides has one: `collide-exactly`.)
+-- The tick of a pair. (A pair that collides has one: `collide_exactly`.)
 abbrev pub tick_of : CommonTick → ℕ
 tick_of Never = 0
 tick_of (At t) = t

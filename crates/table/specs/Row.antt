@@ -116,7 +116,7 @@ abbrev pub whole : Ticks → ℕ
 whole NotWhole = 0
 whole (Whole k) = k
 
--- A time in ticks. (In a table that passes every time is a whole number of them: `trains-exact`.)
+-- A time in ticks. (In a table that passes every time is a whole number of them: `trains_exact`.)
 abbrev pub ticks_of : (unit time : Fraction) → ℕ
 ticks_of unit time = whole (whole_ticks time unit)
 
