@@ -69,7 +69,7 @@ pub record Promises : Type 0 where
       (ws : List ℕ) (count : ℕ) → Words ws →
       Seen ((r : Refusal) × ((stepping_in ws count).answer ≡ ticks.Refused r)) (tick_code (stepping_in ws count).answer)
   -- For a refusal names no train above 64, no line of a verdict is longer than the longest, and a file that is loaded has at most 64
-  -- trains. (That what is saved is at most 1,543 bytes long is `save-longest` of the crate stored.)
+  -- trains. (That what is saved is at most 1,543 bytes long is `save_longest` of the crate stored.)
   pub judge_names : (row : List ℕ) (r : Refusal) → verdict row ≡ Refused r → (paper r).place ≤ none
   pub judge_stored_names : (bs : List ℕ) (r : Refusal) → file_verdict bs ≡ Refused r → (paper r).place ≤ none
   pub save_names : (row : List ℕ) (room : ℕ) (r : Refusal) → saved row room ≡ saves.Refused r → (paper r).place ≤ none
@@ -79,7 +79,7 @@ pub record Promises : Type 0 where
   pub line_stored_longest : (bs : List ℕ) → length (line_of (file_verdict bs)) ≤ longest_line
   pub load_few : (bs : List ℕ) (room k : ℕ) → loaded bs room ≡ loads.Count k → k ≤ capacity
   -- A listing that is imported has at most 64 trains; a refusal names no train above 64 and no record above one more than the bytes of the
-  -- longest text. (That what is exported is at most 4,311 bytes long is `export-longest` of the crate listing.)
+  -- longest text. (That what is exported is at most 4,311 bytes long is `export_longest` of the crate listing.)
   pub import_few : (text : List ℕ) (room k : ℕ) → imported text room ≡ imports.Count k → k ≤ capacity
   pub import_names : (text : List ℕ) (room : ℕ) (r : Refusal) → imported text room ≡ imports.Refused r → (paper r).place ≤ longest_text + 1
   -- So with as much room as the longest line has no line is refused.

@@ -4,7 +4,7 @@
 use Rattle.dispatcher.specs.Calls as calls
 use Rattle.reply.specs.Lines.{Shown, place, withdrawn, idle, starts, goes_on, refuse}
 
--- `idle`, `starts Q` or `goes_on Q`.
+-- `idle`, `starts Q` or `goes-on Q`.
 abbrev pub shown_doing : calls.Doing → Shown
 shown_doing calls.idle = idle
 shown_doing (calls.starts q) = starts q

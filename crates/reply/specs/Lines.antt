@@ -7,7 +7,7 @@
 use Rattle.std.specs.Prelude.{ℕ, ◌^◌, ◌<◌, List, [], ◌∷◌}
 use Rattle.line.specs.Answer.{refuse_word, text_of}
 
--- The lines `fresh`, `place Q`, `withdrawn`, `idle`, `starts Q`, `goes_on Q`, `refuse N Q` and `bad`.
+-- The lines `fresh`, `place Q`, `withdrawn`, `idle`, `starts Q`, `goes-on Q`, `refuse N Q` and `bad`.
 pub data Shown : Type 0 where
   fresh : Shown
   place : (q : ℕ) → Shown
@@ -38,7 +38,7 @@ idle_word = 105 ∷ 100 ∷ 108 ∷ 101 ∷ []
 abbrev pub starts_word : List ℕ
 starts_word = 115 ∷ 116 ∷ 97 ∷ 114 ∷ 116 ∷ 115 ∷ []
 
--- The word `goes_on`.
+-- The word `goes-on`.
 abbrev pub goes_on_word : List ℕ
 goes_on_word = 103 ∷ 111 ∷ 101 ∷ 115 ∷ 45 ∷ 111 ∷ 110 ∷ []
 

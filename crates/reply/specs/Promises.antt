@@ -26,7 +26,7 @@ pub record Promises : Type 0 where
   -- No line of numbers within their types is longer than the longest, and one is as long.
   pub line_fits : (s : Shown) → Within s → length (line_of s) ≤ longest
   pub line_reaches : length (line_of (refuse 4294967295 18446744073709551615)) ≡ longest
-  -- Examples: `fresh`, `place 0`, `withdrawn`, `idle`, `starts 63`, `goes_on 7`, `refuse 15 2` and `bad`, each with its newline.
+  -- Examples: `fresh`, `place 0`, `withdrawn`, `idle`, `starts 63`, `goes-on 7`, `refuse 15 2` and `bad`, each with its newline.
   pub fresh_example : line_of fresh ≡ 102 ∷ 114 ∷ 101 ∷ 115 ∷ 104 ∷ 10 ∷ []
   pub place_example : line_of (place 0) ≡ 112 ∷ 108 ∷ 97 ∷ 99 ∷ 101 ∷ 32 ∷ 48 ∷ 10 ∷ []
   pub withdrawn_example : line_of withdrawn ≡ 119 ∷ 105 ∷ 116 ∷ 104 ∷ 100 ∷ 114 ∷ 97 ∷ 119 ∷ 110 ∷ 10 ∷ []
