@@ -17,7 +17,7 @@ use Rattle.stored.proofs.RoundTrip.{all_already}
 use Rattle.listing.specs.Means.{Listing}
 use Rattle.listing.specs.Layout.{text_of, longest_text}
 use Rattle.listing.specs.Paper.{paper_exported}
-use Rattle.listing.proofs.Layouts.{text_lists}
+use Rattle.listing.proofs.Lists.{text_lists}
 use Rattle.convert.specs.Answer.{store_answer, bytes_after, list_answer, text_after}
 use Rattle.convert.proofs.Storing.{store_answers, store_written}
 use Rattle.convert.proofs.Listings.{list_stored, list_answers, list_written, stored_sayable, stored_within}

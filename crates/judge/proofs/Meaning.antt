@@ -19,7 +19,7 @@ use Rattle.train.specs.declared.Train.{Train}
 use Rattle.train.specs.declared.CommonTick.TheVariants.{At}
 use Rattle.train.specs.Claims.{Limits, Claims, Both, Apart, Collide, Least}
 use Rattle.train.specs.Answer.{free, earliest}
-use Rattle.train.proofs.Test.{free_iff_apart, collides_iff, pair_divisions}
+use Rattle.train.proofs.Test.{free_iff_apart, collides_iff}
 use Rattle.train.proofs.Least.{earliest_at, earliest_exists}
 use Rattle.table.specs.declared.Outcome.{Outcome}
 use Rattle.table.specs.declared.Outcome.TheVariants.{Passed, Refused}
@@ -38,7 +38,7 @@ use Rattle.judge.specs.declared.Verdict.TheVariants as v
 use Rattle.judge.specs.Paper.{Shown, accept, collide, refuse, paper}
 use Rattle.judge.specs.Pairs.{train_at, Schedulable, Places, Before, PairOf, FirstPair, pairs, In, total, SummedTo}
 use Rattle.judge.specs.Answer.{tick_of, scan, found, verdict}
-use Rattle.judge.proofs.Walk.{pairs_few}
+use Rattle.judge.proofs.Walk.{pairs_few, total_few}
 use Rattle.judge.proofs.Ordered.{pairs_all, pairs_before, before_total, in_left}
 use Rattle.judge.proofs.Verdicts.{verdict_refused, verdict_found, verdict_read, verdict_read_lem, FreePair, scan_all_free, scan_first, meets_pair}
 
@@ -276,22 +276,10 @@ module _ (row : List ℕ) where
 
   -- ---- The bound of the division count
 
-  -- at most 33 a pair
-  total_few :
-      refusal row ≡ Passed → (ps : List Places) → ((p : Places) → In p ps → PairOf (length (trains row)) p) →
-      total at ps ≤ 33 * length ps
-  unfolding total
-  total_few e [] all = omega arith
-  total_few e (p ∷ ps) all =
-      let h = all p (inl refl) in
-      let one = pair_divisions (at p.first) (at p.second) (limits e p.first (omega (arith, h.0, h.1))) (limits e p.second h.1) in
-      let others = total_few e ps (λ q m. all q (inr m)) in
-      omega arith
-
   pub accept_divisions_per_pair : (L d : ℕ) → paper (verdict row) ≡ accept L d → d ≤ 33 * length (pairs (length (trains row)))
   accept_divisions_per_pair L d h =
       let e = (accept_schedulable.0 (L, d, h)).0 in
-      omega (arith, (accept_figures L d h).1, total_few e (pairs (length (trains row))) (λ p m. (pairs_all (length (trains row)) p).0 m))
+      omega (arith, (accept_figures L d h).1, total_few at (length (trains row)) (limits e) (pairs (length (trains row))) (λ p m. (pairs_all (length (trains row)) p).0 m))
 
   module _ (i j t L d : ℕ) (h : paper (verdict row) ≡ collide i j t L d) (s : SummedTo (trains row) (record { first = i; second = j }) d) where
     -- the pairs that are summed
@@ -310,7 +298,7 @@ module _ (row : List ℕ) where
     unfolding summed
     collide_divisions_per_pair =
         let e = ((collide_exactly i j t).0 (L, d, h)).0 in
-        let bound = total_few e summed (λ q m. (pairs_all (length (trains row)) q).0 (subst (In q) (sym summed_whole) (in_left q summed s.behind m))) in
+        let bound = total_few at (length (trains row)) (limits e) summed (λ q m. (pairs_all (length (trains row)) q).0 (subst (In q) (sym summed_whole) (in_left q summed s.behind m))) in
         omega (arith, s.sum, bound, summed_count)
 
     summed_few : length s.before + 1 ≤ length (pairs (length (trains row)))

@@ -30,7 +30,8 @@ use Rattle.listing.specs.Given.{table_order}
 use Rattle.listing.specs.Paper.{paper_imported, paper_exported}
 use Rattle.listing.specs.Answer.{imported, row_after, exported, buffer_after}
 use Rattle.listing.proofs.Importing.{listed_entries, import_answers, import_written}
-use Rattle.listing.proofs.Layouts.{Sayable, text_lists}
+use Rattle.listing.proofs.Layouts.{Sayable}
+use Rattle.listing.proofs.Lists.{text_lists}
 use Rattle.listing.proofs.Exporting.{exporting, export_written, way_written, lowest_all, row_sayable, row_within}
 
 -- ---- Lowest terms

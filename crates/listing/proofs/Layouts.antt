@@ -1,5 +1,5 @@
--- The text of trains: it lists just these trains, and how long it is.
--- Core: time_says, train_says, lines_file, lines_say; time_within, lines_within, lines_same. The rest follows from these.
+-- The text of trains: it is a file of a record for each, and how long it is.
+-- Core: time_says, lines_file; time_within, lines_within, lines_same. The rest follows from these.
 -- Assumes nothing.
 use Prim.Native.Nat.{ℕ, zero, suc, ◌+◌, ◌*◌, ◌<◌, ◌≤◌}
 use mathlib.Core.Path.{◌≡◌, refl, sym, ap, subst, ◌∙◌}
@@ -17,10 +17,8 @@ use Rattle.table.specs.declared.Entry.{Entry}
 use Rattle.table.specs.Row.{no_entry}
 use Rattle.listing.specs.Grammar.{comma, Field, plain, Record, of_line, File}
 use Rattle.listing.specs.Grammar as grammar
-use Rattle.listing.specs.Means.{slash, fraction, Time, whole, parts, time, phase_word, period_word, duration_word, heading, entry, Good, good, Goods, Listing}
-use Rattle.listing.specs.Means as means
+use Rattle.listing.specs.Means.{slash, fraction, Time, whole, parts, entry}
 use Rattle.listing.specs.Layout.{time_text, heading_text, record_text, text_of, longest_text, longest_export, Small, SmallEntry, HasDenominators}
-use Rattle.listing.proofs.Words.{letters, letters_plain}
 use Rattle.listing.proofs.Times.{time_plain}
 
 -- ---- What is written says what it stands for
@@ -43,7 +41,7 @@ time_field : (f : Fraction) → Small f → 0 < f.denominator → Field (time_te
 time_field f small some = plain (time_plain (time_text f) f (time_says f small some))
 
 -- The values of the record of a train.
-abbrev values : Entry → List (List ℕ)
+abbrev pub values : Entry → List (List ℕ)
 values e = time_text e.phase ∷ time_text e.period ∷ time_text e.duration ∷ []
 
 -- Its text, without the end of the line.
@@ -56,11 +54,6 @@ module _ (e : Entry) (small : SmallEntry e) (some : HasDenominators e) where
       grammar.more (time_field e.phase small.phase some.phase)
       (grammar.more (time_field e.period small.period some.period)
       (grammar.last (time_field e.duration small.duration some.duration)))
-
-  train_says : Good (values e) e
-  train_says =
-      good (time (time_says e.phase small.phase some.phase)) (time_says e.period small.period some.period)
-      (time_says e.duration small.duration some.duration)
 
 -- ---- Line by line
 
@@ -84,7 +77,7 @@ abbrev pub Sayable : List Entry → Type 0
 Sayable es = (i : ℕ) → i < length es → SmallEntry (get_or es i no_entry) × HasDenominators (get_or es i no_entry)
 
 -- the lines of some trains behind a record
-lines_file :
+pub lines_file :
     (r : List (List ℕ)) (t : List ℕ) (es : List Entry) → Record r t → Sayable es →
     File (r ∷ map values es) (t ++ 13 ∷ 10 ∷ flat_map record_text es)
 unfolding flat_map
@@ -94,28 +87,6 @@ lines_file r t (e ∷ es) is each =
     line_more r t (values e ∷ map values es) (record_text e ++ flat_map record_text es) is (line_some e (flat_map record_text es))
     (subst (File (values e ∷ map values es)) (line_of e (flat_map record_text es))
     (lines_file (values e) (bare e) es (train_record e here.0 here.1) (λ i h. each (suc i) (omega arith))))
-
-lines_say : (es : List Entry) → Sayable es → Goods (map values es) es
-lines_say [] each = means.none
-lines_say (e ∷ es) each =
-    let here = each 0 (omega arith) in
-    means.more (train_says e here.0 here.1) (lines_say es (λ i h. each (suc i) (omega arith)))
-
--- the heading is a record of its three words
-heading_record : Record heading (phase_word ++ (comma ∷ period_word ++ (comma ∷ duration_word)))
-unfolding letters
-heading_record =
-    grammar.more {t = phase_word} (plain (letters_plain phase_word refl))
-    (grammar.more {t = period_word} (plain (letters_plain period_word refl)) (grammar.last (plain (letters_plain duration_word refl))))
-
-pub text_lists : (es : List Entry) → Sayable es → Listing (text_of es) es
-unfolding text_of
-text_lists es each =
-    record {
-      records = map values es;
-      file = lines_file heading (phase_word ++ (comma ∷ period_word ++ (comma ∷ duration_word))) es heading_record each;
-      goods = lines_say es each;
-    }
 
 pub export_example :
     text_of (entry (fraction 0 1) (fraction 36 13) (fraction 12 13) ∷ [])

@@ -8,7 +8,8 @@
 --     Unique              a text has one list of records at most
 --     Counted             of a text that is well-formed to its end, the first bad record is the first that is not good
 --     Importing           what is promised of import
---     Layouts             the text of trains lists them; how long it is
+--     Layouts             the text of trains is a file of their records; how long it is
+--     Lists               the text of trains lists them
 --     Exporting           what is promised of export
 --     Again               what is exported and imported again
 pub mod Fronts
@@ -21,6 +22,7 @@ pub mod Unique
 pub mod Counted
 pub mod Importing
 pub mod Layouts
+pub mod Lists
 pub mod Exporting
 pub mod Again
 pub mod Promises

@@ -16,6 +16,7 @@ use Rattle.listing.specs.Answer.{one_more, entries_from, listed, table_check, im
 use Rattle.listing.specs.Promises.{Promises}
 use Rattle.listing.proofs.Importing as importing
 use Rattle.listing.proofs.Layouts as layouts
+use Rattle.listing.proofs.Lists as lists
 use Rattle.listing.proofs.Exporting as exporting
 use Rattle.listing.proofs.Again as again
 
@@ -56,7 +57,7 @@ promises =
       export_longest = exporting.export_longest;
       export_reaches = exporting.export_reaches;
       export_readable = layouts.export_readable;
-      text_lists = layouts.text_lists;
+      text_lists = lists.text_lists;
       import_after_export = again.import_after_export;
       exported_same = exporting.exported_same;
       exported_verdict = exporting.exported_verdict;
