@@ -1,5 +1,5 @@
 -- `compare` meets its contract: whichever train has the earlier phase is handed to `expression` first.
-use Rattle.train.proofs.Test.{compared, free_ordered, free_later}
+use Rattle.train.proofs.Ways.{compared, free_ordered, free_later}
 use Rattle.train.proofs.compare.Goals as goal
 
 pub returns-then-a-b : goal.returns-then-a-b

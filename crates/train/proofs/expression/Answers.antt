@@ -1,5 +1,5 @@
 -- `expression` meets its contract: each test is one of the definition's.
-use Rattle.train.proofs.Test.{expression_no_divisor, expression_too_early, expression_last}
+use Rattle.train.proofs.Ways.{expression_no_divisor, expression_too_early, expression_last}
 use Rattle.train.proofs.expression.Goals as goal
 
 pub returns-then-divisor-eq0 : goal.returns-then-divisor-eq0
