@@ -19,9 +19,8 @@ pub returns-in-Refused : goal.returns-in-Refused
 returns-in-Refused c =
     let e = c.in-Refused.is in
     let found = sym (c.check-outcome.ensures ∙ ap (entry_check _) c.at.ensures) ∙ e in
-    e
-    ∙ passing_refused _ _ _ c.loop-position.invariant _ (entries_in_lem _ _ c.loop-position-test.true) found
-    ∙ checked_trains _ c.if-row-ne0.false c.if-row-gt-LONGEST_ROW.false
+    let trains = checked_trains _ c.if-row-ne0.false c.if-row-gt-LONGEST_ROW.false in
+    e ∙ passing_refused _ _ _ c.loop-position.invariant _ (entries_in_lem _ _ c.loop-position-test.true) found ∙ trains
 
 pub loop-position-smaller : goal.loop-position-smaller
 loop-position-smaller c = omega arith
