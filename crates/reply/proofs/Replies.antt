@@ -86,22 +86,21 @@ room_left room at short e f = ltb-false room (at + longest) (sym e ∙ f)
 
 -- a buffer that is too short
 pub play_short :
-    (d : Dispatcher) (said before : List ℕ) (at most : ℕ) (short : Bool) → most ≡ longest →
+    (d : Dispatcher) (said before : List ℕ) (at : ℕ) (short : Bool) →
     short ≡ ltb (length before) (at + longest) → short ≡ true →
     (◌≡◌ {A = Played} (record { written = Refused BufferTooShort; dispatcher = d }) (played d said at (length before)))
-    × ((before ≡ buffer_after (Refused BufferTooShort) (reply_to d said) at before) × (most ≡ longest))
+    × (before ≡ buffer_after (Refused BufferTooShort) (reply_to d said) at before)
 unfolding played buffer_after
-play_short d said before at most short m e t = (simp (sym e ∙ t), (refl, m))
+play_short d said before at short e t = (simp (sym e ∙ t), refl)
 
 -- the reply to the call that was matched is the reply to the line
 pub play_reply :
-    (d : Dispatcher) (said before now : List ℕ) (at most : ℕ) (short : Bool) (call matched : Call) (p : Played) → most ≡ longest →
+    (d : Dispatcher) (said before now : List ℕ) (at : ℕ) (short : Bool) (call matched : Call) (p : Played) →
     short ≡ ltb (length before) (at + longest) → short ≡ false → call ≡ call_in said → call ≡ matched →
     Replied (shown d matched) (after d matched) at before now p →
-    (p ≡ played d said at (length before))
-    × ((now ≡ buffer_after p.written (reply_to d said) at before) × (most ≡ longest))
+    (p ≡ played d said at (length before)) × (now ≡ buffer_after p.written (reply_to d said) at before)
 unfolding played
-play_reply d said before now at most short call matched p m e f read match reply =
+play_reply d said before now at short call matched p e f read match reply =
     let r : Replied (shown d (call_in said)) (after d (call_in said)) at before now p =
     subst (λ (c : Call). Replied (shown d c) (after d c) at before now p) (sym match ∙ read) reply in
-    (simp (sym e ∙ f) r.answers, (r.leaves, m))
+    (simp (sym e ∙ f) r.answers, r.leaves)

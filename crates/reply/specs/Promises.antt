@@ -1,5 +1,5 @@
 -- What is proved of the printed lines, a line each; proofs/Promises.antt proves the whole record.
-use Rattle.std.specs.Prelude.{ℕ, ◌≤◌, ◌≡◌, List, [], ◌∷◌, length}
+use Rattle.std.specs.Prelude.{ℕ, ◌≤◌, ◌≡◌, [], ◌∷◌, length}
 use Rattle.dispatcher.specs.declared.Dispatcher.{Dispatcher}
 use Rattle.dispatcher.specs.Calls as calls
 use Rattle.dispatcher.specs.Played.{event_of, record_after}
