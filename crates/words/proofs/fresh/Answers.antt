@@ -1,0 +1,7 @@
+-- `fresh` meets its contract: all words are 0 but the count.
+use Rattle.std.proofs.Common.{refl}
+use Rattle.words.proofs.Stores.{fresh_words}
+use Rattle.words.proofs.fresh.Goals as goal
+
+pub returns : goal.returns
+returns c = (fresh_words _, refl)
