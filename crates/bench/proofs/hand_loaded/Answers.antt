@@ -1,0 +1,16 @@
+-- `hand_loaded` meets its contract: the number of the answer that was matched, or of its refusal.
+use mathlib.Core.Path.{sym, ap, subst, ◌∙◌}
+use Rattle.bench.specs.Answer.{Fits, loaded_parts, loaded_code}
+use Rattle.bench.proofs.hand_loaded.Goals as goal
+
+pub done-requires : goal.done-requires
+done-requires c = subst (λ v. Fits (loaded_parts v)) c.in-Count.is c.requires
+
+pub refused-requires : goal.refused-requires
+refused-requires c = subst (λ v. Fits (loaded_parts v)) c.in-Refused.is c.requires
+
+pub returns-in-Count : goal.returns-in-Count
+returns-in-Count c = c.done.ensures ∙ ap loaded_code (sym c.in-Count.is)
+
+pub returns-in-Refused : goal.returns-in-Refused
+returns-in-Refused c = c.refused.ensures ∙ ap loaded_code (sym c.in-Refused.is)
