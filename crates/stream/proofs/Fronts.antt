@@ -4,7 +4,7 @@ use mathlib.Core.Path.{◌≡◌, sym, subst}
 use mathlib.Core.List.{List}
 use lib.ListN.{length}
 use lib.Seq.{length-take-le}
-use Rattle.io.specs.Counts.{IsPrefixLen}
+use Rattle.stream.specs.Reading.{IsPrefixLen}
 use Rattle.stream.specs.declared.Input.{Input}
 use Rattle.stream.specs.declared.Input.TheVariants.{Bytes}
 use Rattle.stream.specs.Reading.{Front}

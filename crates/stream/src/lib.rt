@@ -1,8 +1,14 @@
-// Standard input and standard output, with their faults, and standard error. A call that was interrupted, or for which the other side is not
-// ready yet, is made again. One that fails is said on standard error, in a line, and answered: it is no end of the input.
-// No public function has a `requires`. No contract can say which bytes come or go, for those of the C library do not.
+// Standard input and standard output, with their faults, and standard error, as the caller hands them over. A call that was interrupted, or
+// for which the other side is not ready yet, is made again. One that fails is said on standard error, in a line, and answered: it is no end of
+// the input. No public function has a `requires`. What comes and goes is said of a reader and a writer whose bytes a contract can
+// name, as those over memory; of those of the system it cannot.
+#![tactic(auto)]
+
 ghost use Rattle.std.specs.Prelude.{◌≤◌, length};
 ghost use Rattle.stream.specs.Reading.{Front};
+
+use std::io::{Cursor, Error, ErrorKind, Read, Write};
+use std::thread;
 
 // What a reading answers.
 #[derive(Drop)]
@@ -13,50 +19,82 @@ pub enum Input {
     Fault,
 }
 
+// The longest words of an error.
+const WORDS: usize = 320;
+
 // Whether a call that has just failed is to be made again. There is no call that waits until the other side is ready, so
 // the processor is offered to it.
-fn again() -> bool {
-    let error = os::errno();
-    if error == libc::EAGAIN {
-        libc::sched_yield();
+fn again(error: &Error) -> bool {
+    let kind = error.kind();
+    if kind == ErrorKind::WouldBlock {
+        thread::yield_now();
         return true;
     }
-    error == libc::EINTR
+    kind == ErrorKind::Interrupted
+}
+
+// How many of the words of an error are its reason: behind that of a call of the system stands the number of the error, in
+// brackets.
+fn reason(error: &Error, words: &[u8]) -> usize
+    ensures { result ≤ length words.now }
+{
+    if error.raw_os_error().is_none() {
+        return words.len();
+    }
+    let number = words.iter().rposition(|byte| *byte == b'(');
+    match number {
+        Some(at) => at.saturating_sub(1),
+        None => words.len(),
+    }
+}
+
+// Says in a line what could not be done, and why.
+fn say<E: Write>(errors: &mut E, what: &[u8], error: Error) {
+    let mut words = Cursor::new([0u8; WORDS]);
+    let _written = write!(words, "{error}");
+    let length = (words.position() as usize).min(WORDS);
+    let words = words.into_inner();
+    let words = &words[..length];
+    complain(errors, what);
+    complain(errors, b": ");
+    complain(errors, &words[..reason(&error, words)]);
+    complain(errors, b"\n");
 }
 
 // Says that the call of `read` that has just failed did, and why.
-fn say_unread() {
-    os::fail(b"standard input cannot be read");
+fn say_unread<E: Write>(errors: &mut E, error: Error) {
+    say(errors, b"standard input cannot be read", error);
 }
 
 // Reads what there is, and waits where there is nothing yet. No byte is read where the input has ended, and none into an
 // empty buffer. A loop has to end, so the turns are counted down, from more than any run takes.
-pub fn read(buffer: &mut [u8]) -> Input
+pub fn read<R: Read, E: Write>(input: &mut R, errors: &mut E, buffer: &mut [u8]) -> Input
     ensures { Front result buffer.new }
 {
     let mut turns = u64::MAX;
     while turns > 0 {
-        let got = libc::read(libc::STDIN_FILENO, buffer);
-        if got >= 0 {
-            return Input::Bytes(io::count(got, buffer));
-        }
-        if !again() {
-            say_unread();
-            return Input::Fault;
+        match input.read(buffer) {
+            Ok(count) => return Input::Bytes(count),
+            Err(error) => {
+                if !again(&error) {
+                    say_unread(errors, error);
+                    return Input::Fault;
+                }
+            }
         }
         turns -= 1;
     }
-    say_unread();
+    say_unread(errors, Error::from(ErrorKind::TimedOut));
     Input::Fault
 }
 
 // Reads until the buffer is full or the input ends.
-pub fn read_full(buffer: &mut [u8]) -> Input
+pub fn read_full<R: Read, E: Write>(input: &mut R, errors: &mut E, buffer: &mut [u8]) -> Input
     ensures { Front result buffer.new }
 {
     let mut done = 0;
     while done < buffer.len() {
-        let more = read(&mut buffer[done..]);
+        let more = read(input, errors, &mut buffer[done..]);
         let Input::Bytes(count) = more else {
             return Input::Fault;
         };
@@ -69,37 +107,42 @@ pub fn read_full(buffer: &mut [u8]) -> Input
 }
 
 // Says that the call of `write` that has just failed did, and why.
-fn say_unwritten() {
-    os::fail(b"standard output cannot be written");
+fn say_unwritten<E: Write>(errors: &mut E, error: Error) {
+    say(errors, b"standard output cannot be written", error);
 }
 
 // Writes the first of the bytes, as many as are taken at once, and answers how many; 0 where they cannot be written, which
 // has been said. The tries are counted down as the turns of `read`.
-fn write_some(bytes: &[u8]) -> usize
+fn write_some<W: Write, E: Write>(output: &mut W, errors: &mut E, bytes: &[u8]) -> usize
     ensures { result ≤ length bytes.now }
 {
     let mut tries = u64::MAX;
     while tries > 0 {
-        let got = libc::write(libc::STDOUT_FILENO, bytes);
-        if got > 0 {
-            return io::count(got, bytes);
-        }
-        // one that takes nothing is no better the next time
-        if got == 0 || !again() {
-            say_unwritten();
-            return 0;
+        match output.write(bytes) {
+            // one that takes nothing is no better the next time
+            Ok(0) => {
+                say_unwritten(errors, Error::from(ErrorKind::WriteZero));
+                return 0;
+            }
+            Ok(count) => return count,
+            Err(error) => {
+                if !again(&error) {
+                    say_unwritten(errors, error);
+                    return 0;
+                }
+            }
         }
         tries -= 1;
     }
-    say_unwritten();
+    say_unwritten(errors, Error::from(ErrorKind::TimedOut));
     0
 }
 
 // Writes all of the bytes, and answers whether that could be done. No bytes are written without a call.
-pub fn write(bytes: &[u8]) -> bool {
+pub fn write<W: Write, E: Write>(output: &mut W, errors: &mut E, bytes: &[u8]) -> bool {
     let mut done = 0;
     while done < bytes.len() {
-        let taken = write_some(&bytes[done..]);
+        let taken = write_some(output, errors, &bytes[done..]);
         if taken == 0 {
             return false;
         }
@@ -109,6 +152,6 @@ pub fn write(bytes: &[u8]) -> bool {
 }
 
 // Writes the bytes to standard error. Where that cannot be done there is nobody to tell.
-pub fn complain(bytes: &[u8]) {
-    io::write_all(libc::STDERR_FILENO, bytes);
+pub fn complain<E: Write>(errors: &mut E, bytes: &[u8]) {
+    let _written = errors.write_all(bytes);
 }
