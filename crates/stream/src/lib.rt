@@ -4,8 +4,9 @@
 // name, as those over memory; of those of the system it cannot.
 #![tactic(auto)]
 
-ghost use Rattle.std.specs.Prelude.{◌≤◌, length};
-ghost use Rattle.stream.specs.Reading.{Front};
+ghost use Rattle.std.specs.Prelude.{◌≤◌, length, take, ◌<◌, IsTrue};
+ghost use Rattle.std.specs.Io.KnownBytes.{Appends};
+ghost use Rattle.stream.specs.Reading.{Front, Taken, EndedAtNone, EndedShort};
 
 use std::io::{Cursor, Error, ErrorKind, Read, Write};
 use std::thread;
@@ -69,7 +70,9 @@ fn say_unread<E: Write>(errors: &mut E, error: Error) {
 // Reads what there is, and waits where there is nothing yet. No byte is read where the input has ended, and none into an
 // empty buffer. A loop has to end, so the turns are counted down, from more than any run takes.
 pub fn read<R: Read, E: Write>(input: &mut R, errors: &mut E, buffer: &mut [u8]) -> Input
-    ensures { Front result buffer.new }
+    ensures front { Front result buffer.new }
+    ensures taken { Taken (R.remaining input.old) (R.remaining input.new) result buffer.new }
+    ensures end { EndedAtNone (R.remaining input.new) result buffer.new }
 {
     let mut turns = u64::MAX;
     while turns > 0 {
@@ -90,7 +93,9 @@ pub fn read<R: Read, E: Write>(input: &mut R, errors: &mut E, buffer: &mut [u8])
 
 // Reads until the buffer is full or the input ends.
 pub fn read_full<R: Read, E: Write>(input: &mut R, errors: &mut E, buffer: &mut [u8]) -> Input
-    ensures { Front result buffer.new }
+    ensures front { Front result buffer.new }
+    ensures taken { Taken (R.remaining input.old) (R.remaining input.new) result buffer.new }
+    ensures end { EndedShort (R.remaining input.new) result buffer.new }
 {
     let mut done = 0;
     while done < buffer.len() {
@@ -114,7 +119,8 @@ fn say_unwritten<E: Write>(errors: &mut E, error: Error) {
 // Writes the first of the bytes, as many as are taken at once, and answers how many; 0 where they cannot be written, which
 // has been said. The tries are counted down as the turns of `read`.
 fn write_some<W: Write, E: Write>(output: &mut W, errors: &mut E, bytes: &[u8]) -> usize
-    ensures { result ≤ length bytes.now }
+    ensures within { result ≤ length bytes.now }
+    ensures written { Appends (W.contents output.old) (W.contents output.new) (take result bytes.now) }
 {
     let mut tries = u64::MAX;
     while tries > 0 {
@@ -139,7 +145,9 @@ fn write_some<W: Write, E: Write>(output: &mut W, errors: &mut E, bytes: &[u8]) 
 }
 
 // Writes all of the bytes, and answers whether that could be done. No bytes are written without a call.
-pub fn write<W: Write, E: Write>(output: &mut W, errors: &mut E, bytes: &[u8]) -> bool {
+pub fn write<W: Write, E: Write>(output: &mut W, errors: &mut E, bytes: &[u8]) -> bool
+    ensures { IsTrue result → Appends (W.contents output.old) (W.contents output.new) bytes.now }
+{
     let mut done = 0;
     while done < bytes.len() {
         let taken = write_some(output, errors, &bytes[done..]);

@@ -1,0 +1,11 @@
+-- The bytes that were read last follow those before them. Assumes nothing.
+use Rattle.std.proofs.Common.{rules, sym, subst}
+use Rattle.std.specs.Io.KnownBytes.{Consumes}
+use Rattle.std.proofs.KnownBytes.{Consumes-trans}
+use Rattle.stream.proofs.Fronts.{front_grows}
+use Rattle.stream.proofs.read_full.Goals as goal
+
+pub loop-done-preserved : goal.loop-done-preserved
+loop-done-preserved g c =
+    let joined = front_grows c.loop-done.done _ c.in-Bytes.count c.loop-done.buffer c.read-more.new.buffer c.loop-done.invariant.1 c.in-Bytes.ensures.front.0 in
+    (search rules, search rules, subst (Consumes _ _) (sym joined) (Consumes-trans _ _ _ _ _ c.loop-done.invariant.2 c.in-Bytes.ensures.taken))
