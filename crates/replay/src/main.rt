@@ -1,6 +1,8 @@
 // Replays a script: standard input has a call of a dispatcher in each line, and for each line a line is printed.
 // `reply` goes from a line to the line of its answer, and nothing is decided here but where a line ends, so nothing is
 // promised but that it ends safely.
+#![tactic(auto)]
+
 ghost use Rattle.std.specs.Prelude.{◌≤◌, length};
 
 use dispatcher::Dispatcher;
@@ -80,8 +82,8 @@ impl Play {
     }
 
     // The answers that wait are written. Where that cannot be, nothing goes on.
-    fn flushed(mut self, lines: &[u8]) -> Play {
-        let written = write(lines, self.waiting);
+    fn flushed(mut self, rt: &HostRuntime, lines: &[u8]) -> Play {
+        let written = write(rt, lines, self.waiting);
         self.waiting = 0;
         self.goes_on = self.goes_on && written;
         self
@@ -97,9 +99,9 @@ impl Play {
 
 // Writes the first bytes of the answers, and answers whether they could be written. The count is tested here, so that
 // nothing is asked of whoever counted them.
-fn write(lines: &[u8], waiting: usize) -> bool {
+fn write(rt: &HostRuntime, lines: &[u8], waiting: usize) -> bool {
     if waiting <= lines.len() {
-        return stream::write(&lines[..waiting]);
+        return stream::write(&mut rt.stdout(), &mut rt.stderr(), &lines[..waiting]);
     }
     false
 }
@@ -141,7 +143,13 @@ fn collect(input: &[u8], from: usize, line: &mut [u8; KEPT], kept: usize) -> Pie
 
 // Plays the lines that end in this part of the input, as long as their answers can be written, and keeps what there is of
 // the next one.
-fn play_part(play: Play, input: &[u8], line: &mut [u8; KEPT], lines: &mut [u8; ROOM]) -> Play {
+fn play_part(
+    rt: &HostRuntime,
+    play: Play,
+    input: &[u8],
+    line: &mut [u8; KEPT],
+    lines: &mut [u8; ROOM],
+) -> Play {
     let mut play = play;
     let mut from = 0;
     while from < input.len() && play.goes_on {
@@ -151,7 +159,7 @@ fn play_part(play: Play, input: &[u8], line: &mut [u8; KEPT], lines: &mut [u8; R
         }
         play = play.call(line, piece.kept, lines);
         if play.waiting > NEARLY_FULL {
-            play = play.flushed(lines);
+            play = play.flushed(rt, lines);
         }
         from = piece.end + 1;
     }
@@ -170,28 +178,40 @@ fn play_last(play: Play, line: &[u8; KEPT], lines: &mut [u8; ROOM]) -> Play {
 // Reads what there is to read and plays it; where there is nothing, the input has ended. The answers are written before
 // the next reading, since whoever wrote the calls may wait for them. Of an input that cannot be read the line that has not
 // ended is not answered, for nothing is known of the rest of it.
-fn play_next(play: Play, block: &mut [u8], line: &mut [u8; KEPT], lines: &mut [u8; ROOM]) -> Play {
-    let input = stream::read(block);
+fn play_next(
+    rt: &HostRuntime,
+    play: Play,
+    block: &mut [u8],
+    line: &mut [u8; KEPT],
+    lines: &mut [u8; ROOM],
+) -> Play {
+    let input = stream::read(&mut rt.stdin(), &mut rt.stderr(), block);
     let Input::Bytes(count) = input else {
         return play.end();
     };
     if count == 0 {
-        return play_last(play, line, lines).flushed(lines);
+        return play_last(play, line, lines).flushed(rt, lines);
     }
-    play_part(play, &block[..count], line, lines).flushed(lines)
+    play_part(rt, play, &block[..count], line, lines).flushed(rt, lines)
 }
 
 // A loop has to end, and nothing says that the input does. So the turns are counted down, from more than any run takes.
-fn play_input(play: Play, block: &mut [u8], line: &mut [u8; KEPT], lines: &mut [u8; ROOM]) {
+fn play_input(
+    rt: &HostRuntime,
+    play: Play,
+    block: &mut [u8],
+    line: &mut [u8; KEPT],
+    lines: &mut [u8; ROOM],
+) {
     let mut play = play;
     let mut turns = u64::MAX;
     while turns > 0 && play.goes_on {
-        play = play_next(play, block, line, lines);
+        play = play_next(rt, play, block, line, lines);
         turns -= 1;
     }
 }
 
-fn main() {
+fn main(rt: HostRuntime) {
     let mut block = [0u8; BLOCK];
     let mut line = [0u8; KEPT];
     let mut lines = [0u8; ROOM];
@@ -201,5 +221,5 @@ fn main() {
         waiting: 0,
         goes_on: true,
     };
-    play_input(start, &mut block, &mut line, &mut lines);
+    play_input(&rt, start, &mut block, &mut line, &mut lines);
 }
