@@ -44,10 +44,10 @@ returns-then-row-count c = record {
 
 pub put_entries-requires : goal.put_entries-requires
 put_entries-requires c =
-    let found = head_passed _ (sym c.check_head-head.ensures ∙ c.in-Passed.is) in
+    let headed = head_passed _ (sym c.check_head-head.ensures ∙ c.in-Passed.is) in
     record {
       record_length_le_width = omega arith;
-      width_in_bounds = trains_within _ _ found c.get16-count.ensures.0;
+      width_in_bounds = trains_within _ _ headed c.get16-count.ensures.0;
       numbers_in_bounds = omega arith;
     }
 
