@@ -1,5 +1,5 @@
-// The library that other languages link: the calls of the other crates as C functions over numbers and slices. Each is proved
-// equal to the call that it wraps; include/urzabelki.h is its header. No exported function has a `requires`.
+// What other languages get: the calls of the other crates over numbers and slices. Each is proved equal to the call that it wraps;
+// `bench_c` hands them to C, and include/urzabelki.h is their header. No public function has a `requires`.
 #![tactic(auto)]
 
 ghost use Rattle.std.specs.Prelude.{◌^◌, ◌<◌, ◌≡◌, [], ◌∷◌, length};
