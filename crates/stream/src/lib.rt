@@ -12,7 +12,7 @@ use std::io::{Cursor, Error, ErrorKind, Read, Write};
 use std::thread;
 
 // What a reading answers.
-#[derive(Drop)]
+#[derive(Clone, Copy)]
 pub enum Input {
     // So many bytes were read, and stand at the front of the buffer.
     Bytes(usize),

@@ -8,11 +8,18 @@ pub refused-requires : goal.refused-requires
 refused-requires c = subst (λ v. Fits (verdict_parts v)) c.in-Refused.is c.requires
 
 pub returns-in-Accepted : goal.returns-in-Accepted
-returns-in-Accepted c = let both = hands_accepted c.args.verdict _ _ _ _ c.in-Accepted.is c.code.ensures c.put_figures.ensures in record { answer = both.0; memory = both.1 }
+returns-in-Accepted c =
+    let both = hands_accepted c.args.verdict _ _ _ _ c.in-Accepted.is c.code.ensures c.put_figures.ensures in
+    record { answer = both.0; memory = both.1 }
 
 pub returns-in-Collide : goal.returns-in-Collide
-returns-in-Collide c = let both = hands_collide c.args.verdict _ _ _ _ _ c.in-Collide.is c.code-in-Collide.ensures _
-    c.put_figures-in-Collide.ensures c.put_meeting.ensures in record { answer = both.0; memory = both.1 }
+returns-in-Collide c =
+    let both =
+    hands_collide c.args.verdict _ _ _ _ _ c.in-Collide.is c.code-in-Collide.ensures _
+    c.put_figures-in-Collide.ensures c.put_meeting.ensures in
+    record { answer = both.0; memory = both.1 }
 
 pub returns-in-Refused : goal.returns-in-Refused
-returns-in-Refused c = let both = hands_refused c.args.verdict _ _ _ _ c.in-Refused.is c.refused.ensures refl in record { answer = both.0; memory = both.1 }
+returns-in-Refused c =
+    let both = hands_refused c.args.verdict _ _ _ _ c.in-Refused.is c.refused.ensures refl in
+    record { answer = both.0; memory = both.1 }

@@ -7,4 +7,6 @@ pub hand_verdict-requires : goal.hand_verdict-requires
 hand_verdict-requires c = verdict_fitting _ _ c.judge.ensures (file_proper _)
 
 pub returns : goal.returns
-returns c = let both = hands_verdict _ _ c.judge.ensures _ _ _ c.hand_verdict.ensures.answer c.hand_verdict.ensures.memory in record { answer = both.0; memory = both.1 }
+returns c =
+    let both = hands_verdict _ _ c.judge.ensures _ _ _ c.hand_verdict.ensures.answer c.hand_verdict.ensures.memory in
+    record { answer = both.0; memory = both.1 }

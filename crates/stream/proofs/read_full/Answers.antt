@@ -7,5 +7,7 @@ use Rattle.stream.proofs.read_full.Goals as goal
 
 pub loop-done-preserved : goal.loop-done-preserved
 loop-done-preserved g c =
-    let joined = front_grows c.loop-done.done _ c.in-Bytes.count c.loop-done.buffer c.read-more.new.buffer c.loop-done.invariant.1 c.in-Bytes.ensures.front.0 in
+    let loop = c.loop-done in
+    let got = c.in-Bytes in
+    let joined = front_grows loop.done _ got.count loop.buffer c.read-more.new.buffer loop.invariant.1 got.ensures.front.0 in
     (search rules, search rules, subst (Consumes _ _) (sym joined) (Consumes-trans _ _ _ _ _ c.loop-done.invariant.2 c.in-Bytes.ensures.taken))
