@@ -1,5 +1,5 @@
 -- The answers of saving and loading in the paper's numbers, and what a call with that answer leaves in the lent memory.
--- Core: saved_tells, loaded_tells, saved_is, loaded_is. The rest is the laws of the constructors in these words.
+-- Core: answer_tells, answer_is. The rest is the laws of the constructors in these words.
 -- Assumes nothing.
 use Prim.Native.Nat.{ℕ, ◌*◌, ◌<◌, ◌≤◌}
 use mathlib.Core.Path.{◌≡◌, refl, sym, ap, subst, ◌∙◌}
@@ -7,6 +7,7 @@ use mathlib.Core.Logic.Iff
 use mathlib.Core.Logic.{◌↔◌}
 use mathlib.Core.List.{List, [], ◌∷◌, ◌++◌, map}
 use lib.ListN.{length, take, drop}
+use Rattle.std.specs.Prelude.{Result, Ok, Err}
 use Rattle.refusal.specs.declared.Refusal.{Refusal}
 use Rattle.refusal.specs.declared.Refusal.TheVariants.{BufferTooShort}
 use Rattle.refusal.specs.Paper.{Said, paper, answers, refuse}
@@ -18,78 +19,51 @@ use Rattle.table.specs.Row.{Words, numbers, record_length, entries, row_of, lowe
 use Rattle.table.specs.Given.{checked_order}
 use Rattle.table.proofs.InOrder.{Follows}
 use Rattle.table.proofs.Numbers.{checked_in_order}
-use Rattle.stored.specs.declared.Saved.{Saved}
-use Rattle.stored.specs.declared.Saved.TheVariants as saves
-use Rattle.stored.specs.declared.Loaded.{Loaded}
-use Rattle.stored.specs.declared.Loaded.TheVariants as loads
 use Rattle.stored.specs.Layout.{head_length, bytes_of, Bytes, StoredAs}
 use Rattle.stored.specs.Found.{count_in, trains_in}
 use Rattle.stored.specs.Given.{save_order, stored_checks, head_checks, load_order}
-use Rattle.stored.specs.Paper.{paper_saved, paper_loaded}
-use Rattle.stored.specs.Answer.{save_check, saved_after, saved, saved_in, buffer_after, load_check, loaded_after, loaded, loaded_in, row_after}
+use Rattle.stored.specs.Paper.{paper_answer}
+use Rattle.stored.specs.Answer.{save_check, answer_after, saved, saved_in, buffer_after, load_check, loaded, loaded_in, row_after}
 use Rattle.stored.proofs.Lengths.{records_length}
 use Rattle.stored.proofs.Following as following
-use Rattle.stored.proofs.Following.{save_follows, load_follows, saved_refused, saved_length, loaded_refused, loaded_count}
+use Rattle.stored.proofs.Following.{save_follows, load_follows, answer_refused, answer_value}
 use Rattle.stored.proofs.Accepted as accepted
 use Rattle.stored.proofs.RoundTrip as round_trip
 use Rattle.stored.proofs.Written as written
 
 -- ---- Answers
 
-saved_tells : Tells paper_saved saves.Refused refuse
-saved_tells = record { is = λ r. refl; only = found }
+answer_tells : Tells paper_answer Err refuse
+answer_tells = record { is = λ r. refl; only = found }
   where
     found :
-        (x : Saved) (number place : ℕ) → paper_saved x ≡ refuse number place →
-        (r : Refusal) × (x ≡ saves.Refused r) × (paper r ≡ record { number = number; place = place })
-    found (saves.Length n) number place e = absurd (answers_not_refuse e)
-    found (saves.Refused r) number place e = (r, refl, refusing_only r number place e)
+        (x : Result ℕ Refusal) (number place : ℕ) → paper_answer x ≡ refuse number place →
+        (r : Refusal) × (x ≡ Err r) × (paper r ≡ record { number = number; place = place })
+    found (Ok n) number place e = absurd (answers_not_refuse e)
+    found (Err r) number place e = (r, refl, refusing_only r number place e)
 
-loaded_tells : Tells paper_loaded loads.Refused refuse
-loaded_tells = record { is = λ r. refl; only = found }
-  where
-    found :
-        (x : Loaded) (number place : ℕ) → paper_loaded x ≡ refuse number place →
-        (r : Refusal) × (x ≡ loads.Refused r) × (paper r ≡ record { number = number; place = place })
-    found (loads.Count k) number place e = absurd (answers_not_refuse e)
-    found (loads.Refused r) number place e = (r, refl, refusing_only r number place e)
-
-pub saved_is : (x : Saved) (n : ℕ) → (paper_saved x ≡ answers n) ↔ (x ≡ saves.Length n)
-saved_is (saves.Length m) n = ((λ e. ap saves.Length (answers_only e)), (λ e. ap paper_saved e))
-saved_is (saves.Refused r) n = ((λ e. absurd (answers_not_refuse (sym e))), (λ e. ap paper_saved e))
-
-pub loaded_is : (x : Loaded) (k : ℕ) → (paper_loaded x ≡ answers k) ↔ (x ≡ loads.Count k)
-loaded_is (loads.Count m) k = ((λ e. ap loads.Count (answers_only e)), (λ e. ap paper_loaded e))
-loaded_is (loads.Refused r) k = ((λ e. absurd (answers_not_refuse (sym e))), (λ e. ap paper_loaded e))
+pub answer_is : (x : Result ℕ Refusal) (n : ℕ) → (paper_answer x ≡ answers n) ↔ (x ≡ Ok n)
+answer_is (Ok m) n = ((λ e. ap Ok (answers_only e)), (λ e. ap paper_answer e))
+answer_is (Err r) n = ((λ e. absurd (answers_not_refuse (sym e))), (λ e. ap paper_answer e))
 
 -- an answer after checks that follow an order has a number and a train exactly when the order gives them, and a value where none holds
 module _ (o : Outcome) (order : List Check) (follows : Follows o order) (value : ℕ) where
-  pub saved_gives : (number train : ℕ) → (paper_saved (saved_after o value) ≡ refuse number train) ↔ Gives order number train
-  saved_gives =
-      gives_exactly paper_saved saves.Refused refuse saved_tells order (saved_after o value)
-      (λ r. Iff.trans (saved_refused o value r) (follows.refused r))
+  pub answer_gives : (number train : ℕ) → (paper_answer (answer_after o value) ≡ refuse number train) ↔ Gives order number train
+  answer_gives =
+      gives_exactly paper_answer Err refuse answer_tells order (answer_after o value)
+      (λ r. Iff.trans (answer_refused o value r) (follows.refused r))
 
-  pub loaded_gives : (number train : ℕ) → (paper_loaded (loaded_after o value) ≡ refuse number train) ↔ Gives order number train
-  loaded_gives =
-      gives_exactly paper_loaded loads.Refused refuse loaded_tells order (loaded_after o value)
-      (λ r. Iff.trans (loaded_refused o value r) (follows.refused r))
-
-  pub saved_answers : (n : ℕ) → (paper_saved (saved_after o value) ≡ answers n) ↔ (None order × (n ≡ value))
-  saved_answers n =
-      Iff.trans (saved_is (saved_after o value) n)
-      (Iff.trans (saved_length o value n) ((λ w. (follows.passed.0 w.0, sym w.1)), (λ w. (follows.passed.1 w.0, sym w.1))))
-
-  pub loaded_answers : (k : ℕ) → (paper_loaded (loaded_after o value) ≡ answers k) ↔ (None order × (k ≡ value))
-  loaded_answers k =
-      Iff.trans (loaded_is (loaded_after o value) k)
-      (Iff.trans (loaded_count o value k) ((λ w. (follows.passed.0 w.0, sym w.1)), (λ w. (follows.passed.1 w.0, sym w.1))))
+  pub answer_answers : (n : ℕ) → (paper_answer (answer_after o value) ≡ answers n) ↔ (None order × (n ≡ value))
+  answer_answers n =
+      Iff.trans (answer_is (answer_after o value) n)
+      (Iff.trans (answer_value o value n) ((λ w. (follows.passed.0 w.0, sym w.1)), (λ w. (follows.passed.1 w.0, sym w.1))))
 
 -- what a call leaves is what its answer says
-pub buffer_is : (row out : List ℕ) (answer : Saved) → saved row (length out) ≡ answer → buffer_after row out ≡ saved_in answer row out
-buffer_is row out answer e = ap (λ (a : Saved). saved_in a row out) e
+pub buffer_is : (row out : List ℕ) (answer : Result ℕ Refusal) → saved row (length out) ≡ answer → buffer_after row out ≡ saved_in answer row out
+buffer_is row out answer e = ap (λ (a : Result ℕ Refusal). saved_in a row out) e
 
-pub row_is : (bs before : List ℕ) (answer : Loaded) → loaded bs (length before) ≡ answer → row_after bs before ≡ loaded_in answer bs before
-row_is bs before answer e = ap (λ (a : Loaded). loaded_in a bs before) e
+pub row_is : (bs before : List ℕ) (answer : Result ℕ Refusal) → loaded bs (length before) ≡ answer → row_after bs before ≡ loaded_in answer bs before
+row_is bs before answer e = ap (λ (a : Result ℕ Refusal). loaded_in a bs before) e
 
 -- ---- Saving
 
@@ -103,26 +77,26 @@ save_in_order row room =
 
 pub save_refused :
     (row : List ℕ) (room number train : ℕ) →
-    (paper_saved (saved row room) ≡ refuse number train) ↔ Gives (save_order row room) number train
-save_refused row room = saved_gives (save_check row room) (save_order row room) (save_follows row room) _
+    (paper_answer (saved row room) ≡ refuse number train) ↔ Gives (save_order row room) number train
+save_refused row room = answer_gives (save_check row room) (save_order row room) (save_follows row room) _
 
 pub save_keeps :
-    (row out : List ℕ) (number train : ℕ) → paper_saved (saved row (length out)) ≡ refuse number train → buffer_after row out ≡ out
+    (row out : List ℕ) (number train : ℕ) → paper_answer (saved row (length out)) ≡ refuse number train → buffer_after row out ≡ out
 unfolding saved_in
 save_keeps row out number train e =
-    let found = saved_tells.only (saved row (length out)) number train e in
-    buffer_is row out (saves.Refused found.0) found.1
+    let found = answer_tells.only (saved row (length out)) number train e in
+    buffer_is row out (Err found.0) found.1
 
 pub save_written :
     (row : List ℕ) (room n : ℕ) →
-    (paper_saved (saved row room) ≡ answers n)
+    (paper_answer (saved row room) ≡ answers n)
     ↔ (None (save_order row room) × (n ≡ length (bytes_of (map lowest_entry (entries row)))))
-save_written row room n = Iff.trans (saved_is (saved row room) n) (following.save_written row room n)
+save_written row room n = Iff.trans (answer_is (saved row room) n) (following.save_written row room n)
 
-module _ (row out : List ℕ) (n : ℕ) (answer : paper_saved (saved row (length out)) ≡ answers n) where
+module _ (row out : List ℕ) (n : ℕ) (answer : paper_answer (saved row (length out)) ≡ answers n) where
   -- the answer is a length
-  wrote : saved row (length out) ≡ saves.Length n
-  wrote = (saved_is (saved row (length out)) n).0 answer
+  wrote : saved row (length out) ≡ Ok n
+  wrote = (answer_is (saved row (length out)) n).0 answer
 
   pub save_bytes : Words row → Bytes (take n (buffer_after row out))
   save_bytes words =
@@ -130,19 +104,19 @@ module _ (row out : List ℕ) (n : ℕ) (answer : paper_saved (saved row (length
 
   pub load_after_save :
       (before : List ℕ) → length (entries row) * numbers ≤ length before →
-      (paper_loaded (loaded (take n (buffer_after row out)) (length before)) ≡ answers (length (entries row)))
+      (paper_answer (loaded (take n (buffer_after row out)) (length before)) ≡ answers (length (entries row)))
       × (row_after (take n (buffer_after row out)) before ≡ lowest_row row ++ drop (length (entries row) * numbers) before)
   load_after_save before room =
       subst
       (λ (l : List ℕ).
-      (paper_loaded (loaded (take n l) (length before)) ≡ answers (length (entries row)))
+      (paper_answer (loaded (take n l) (length before)) ≡ answers (length (entries row)))
       × (row_after (take n l) before ≡ lowest_row row ++ drop (length (entries row) * numbers) before))
       (sym (buffer_is row out _ wrote))
-      (ap paper_loaded trip.0, row_is _ before _ trip.0 ∙ trip.1)
+      (ap paper_answer trip.0, row_is _ before _ trip.0 ∙ trip.1)
     where
       trip :
-          (loaded (take n (saved_in (saves.Length n) row out)) (length before) ≡ loads.Count (length (entries row)))
-          × (loaded_in (loads.Count (length (entries row))) (take n (saved_in (saves.Length n) row out)) before
+          (loaded (take n (saved_in (Ok n) row out)) (length before) ≡ Ok (length (entries row)))
+          × (loaded_in (Ok (length (entries row))) (take n (saved_in (Ok n) row out)) before
           ≡ lowest_row row ++ drop (length (entries row) * numbers) before)
       trip = round_trip.load_after_save row out before n wrote room
 
@@ -179,20 +153,20 @@ load_in_order bs room =
 
 pub load_refused :
     (bs : List ℕ) (room number train : ℕ) →
-    (paper_loaded (loaded bs room) ≡ refuse number train) ↔ Gives (load_order bs room) number train
-load_refused bs room = loaded_gives (load_check bs room) (load_order bs room) (load_follows bs room) _
+    (paper_answer (loaded bs room) ≡ refuse number train) ↔ Gives (load_order bs room) number train
+load_refused bs room = answer_gives (load_check bs room) (load_order bs room) (load_follows bs room) _
 
 pub load_keeps :
-    (bs before : List ℕ) (number train : ℕ) → paper_loaded (loaded bs (length before)) ≡ refuse number train → row_after bs before ≡ before
+    (bs before : List ℕ) (number train : ℕ) → paper_answer (loaded bs (length before)) ≡ refuse number train → row_after bs before ≡ before
 unfolding loaded_in
 load_keeps bs before number train e =
-    let found = loaded_tells.only (loaded bs (length before)) number train e in
-    row_is bs before (loads.Refused found.0) found.1
+    let found = answer_tells.only (loaded bs (length before)) number train e in
+    row_is bs before (Err found.0) found.1
 
 pub load_accepted :
     (bs : List ℕ) (room k : ℕ) → Bytes bs →
-    (paper_loaded (loaded bs room) ≡ answers k) ↔ ((es : List Entry) × StoredAs bs es × (length es ≡ k) × (k * numbers ≤ room))
-load_accepted bs room k bytes = Iff.trans (loaded_is (loaded bs room) k) (accepted.load_accepted bs room k bytes)
+    (paper_answer (loaded bs room) ≡ answers k) ↔ ((es : List Entry) × StoredAs bs es × (length es ≡ k) × (k * numbers ≤ room))
+load_accepted bs room k bytes = Iff.trans (answer_is (loaded bs room) k) (accepted.load_accepted bs room k bytes)
 
 pub load_written :
     (bs before : List ℕ) (es : List Entry) → StoredAs bs es → length es * numbers ≤ length before →
@@ -202,21 +176,21 @@ load_written bs before es stored room =
 
 pub save_after_load :
     (bs before out : List ℕ) (k : ℕ) → Bytes bs →
-    paper_loaded (loaded bs (length before)) ≡ answers k → length bs ≤ length out →
-    (paper_saved (saved (take (k * numbers) (row_after bs before)) (length out)) ≡ answers (length bs))
+    paper_answer (loaded bs (length before)) ≡ answers k → length bs ≤ length out →
+    (paper_answer (saved (take (k * numbers) (row_after bs before)) (length out)) ≡ answers (length bs))
     × (buffer_after (take (k * numbers) (row_after bs before)) out ≡ bs ++ drop (length bs) out)
 save_after_load bs before out k bytes answer fits =
     subst
     (λ (l : List ℕ).
-    (paper_saved (saved (take (k * numbers) l) (length out)) ≡ answers (length bs))
+    (paper_answer (saved (take (k * numbers) l) (length out)) ≡ answers (length bs))
     × (buffer_after (take (k * numbers) l) out ≡ bs ++ drop (length bs) out))
     (sym (row_is bs before _ read))
-    (ap paper_saved trip.0, buffer_is _ out _ trip.0 ∙ trip.1)
+    (ap paper_answer trip.0, buffer_is _ out _ trip.0 ∙ trip.1)
   where
-    read : loaded bs (length before) ≡ loads.Count k
-    read = (loaded_is (loaded bs (length before)) k).0 answer
+    read : loaded bs (length before) ≡ Ok k
+    read = (answer_is (loaded bs (length before)) k).0 answer
 
     trip :
-        (saved (take (k * numbers) (loaded_in (loads.Count k) bs before)) (length out) ≡ saves.Length (length bs))
-        × (saved_in (saves.Length (length bs)) (take (k * numbers) (loaded_in (loads.Count k) bs before)) out ≡ bs ++ drop (length bs) out)
+        (saved (take (k * numbers) (loaded_in (Ok k) bs before)) (length out) ≡ Ok (length bs))
+        × (saved_in (Ok (length bs)) (take (k * numbers) (loaded_in (Ok k) bs before)) out ≡ bs ++ drop (length bs) out)
     trip = round_trip.save_after_load bs before out k bytes read fits
