@@ -1,7 +1,7 @@
 -- The laws of the least common multiple of a list, and of taking its numbers one after the other against the limit.
--- Core: least_is, within_limited, above_limited, multiple_is, running_is. The rest follows from these.
+-- Core: within_limited, above_limited, multiple_is, running_is. The rest follows from these.
 -- Assumes nothing.
-use Prim.Native.Nat.{ℕ, ◌*◌, ◌/◌, ◌<◌, ◌≤◌, ◌∣◌}
+use Prim.Native.Nat.{ℕ, ◌<◌, ◌≤◌, ◌∣◌}
 use mathlib.Core.Path.{◌≡◌, refl, sym, ap, ◌∙◌}
 use mathlib.Core.Logic.{◌↔◌}
 use mathlib.Core.List.{List, [], ◌∷◌, ◌++◌}
@@ -9,24 +9,18 @@ use native.Mathlib.Nat.{one-dvd, dvd_trans, dvd_antisymm, le_of_dvd, pos_of_dvd_
 use native.Mathlib.Decide.{dec_le}
 use native.Mathlib.Omega.{arith}
 use borrow.Author.Tests.{le-leb, lt-leb}
-use Rattle.euclid.specs.Answer.{gcd, lcm}
+use Rattle.euclid.specs.Answer.{lcm}
 use Rattle.euclid.proofs.Multiple.{lcm_is, lcm_one, lcm_comm, lcm_assoc, lcm_pos}
-use Rattle.fraction.specs.declared.Multiple.{Multiple}
-use Rattle.fraction.specs.declared.Multiple.TheVariants.{Above, Within}
+use Rattle.std.specs.Prelude.{Option, None, Some}
 use Rattle.fraction.specs.Value.{AllDivide, IsCommonMultiple}
 use Rattle.fraction.specs.Answer.{limit, limited, included, common_multiple, running_from, running}
 
 -- ---- Core laws
 
--- the multiple of two numbers, from the quotient and the product that the code takes
-pub least_is : (a b g p m : ℕ) → g ≡ gcd a b → p ≡ a / g → m ≡ p * b → m ≡ lcm a b
-unfolding lcm
-least_is a b g p m g-is p-is m-is = rw (m-is, p-is, g-is)
-
-pub within_limited : (m l : ℕ) → m ≤ limit → m ≡ l → Within m ≡ limited l
+pub within_limited : (m l : ℕ) → m ≤ limit → m ≡ l → Some m ≡ limited l
 within_limited m l h e = rw (← e) (simp (le-leb m limit h))
 
-pub above_limited : (m l : ℕ) → limit < m → m ≡ l → Above ≡ limited l
+pub above_limited : (m l : ℕ) → limit < m → m ≡ l → None ≡ limited l
 above_limited m l h e = rw (← e) (simp (lt-leb m limit h))
 
 -- what all of a list divide goes on to be divided by them at its multiples
@@ -55,10 +49,10 @@ included_limited : (m d : ℕ) → 0 < m → 0 < d → included (limited m) d �
 included_limited m d hm hd = go (dec_le m limit)
   where
     go : Dec (m ≤ limit) → included (limited m) d ≡ limited (lcm m d)
-    go (yes h) = ap (λ (r : Multiple). included r d) (sym (within_limited m m h refl))
+    go (yes h) = ap (λ (r : Option ℕ). included r d) (sym (within_limited m m h refl))
     go (no h) =
         let le : m ≤ lcm m d = le_of_dvd (lcm_pos m d hm hd) (lcm_is m d).left in
-        ap (λ (r : Multiple). included r d) (sym (above_limited m m (omega arith) refl)) ∙ above_limited (lcm m d) (lcm m d) (omega arith) refl
+        ap (λ (r : Option ℕ). included r d) (sym (above_limited m m (omega arith) refl)) ∙ above_limited (lcm m d) (lcm m d) (omega arith) refl
 
 running_from_lem : (m : ℕ) (ds : List ℕ) → 0 < m → 0 < common_multiple ds → running_from (limited m) ds ≡ limited (lcm m (common_multiple ds))
 unfolding running_from common_multiple
@@ -66,7 +60,7 @@ running_from_lem m [] hm h = ap limited (sym (lcm_one m))
 running_from_lem m (d ∷ ds) hm h =
     let is = lcm_is d (common_multiple ds) in
     let hd : 0 < d = pos_of_dvd_of_pos is.left h in
-    ap (λ (r : Multiple). running_from r ds) (included_limited m d hm hd)
+    ap (λ (r : Option ℕ). running_from r ds) (included_limited m d hm hd)
     ∙ running_from_lem (lcm m d) ds (lcm_pos m d hm hd) (pos_of_dvd_of_pos is.right h)
     ∙ ap limited (lcm_assoc m d (common_multiple ds))
 
@@ -75,23 +69,23 @@ unfolding running
 running_is ds h = running_from_lem 1 ds (omega arith) h ∙ ap limited (lcm_comm 1 (common_multiple ds) ∙ lcm_one (common_multiple ds))
 
 -- one list after another
-pub running_append : (m : Multiple) (ds es : List ℕ) → running_from m (ds ++ es) ≡ running_from (running_from m ds) es
+pub running_append : (m : Option ℕ) (ds es : List ℕ) → running_from m (ds ++ es) ≡ running_from (running_from m ds) es
 unfolding running_from
 running_append m [] es = refl
 running_append m (d ∷ ds) es = running_append (included m d) ds es
 
 -- whether the multiple of a list has passed the limit
-pub running_above : (ds : List ℕ) → 0 < common_multiple ds → (running ds ≡ Above) ↔ (limit < common_multiple ds)
+pub running_above : (ds : List ℕ) → 0 < common_multiple ds → (running ds ≡ None) ↔ (limit < common_multiple ds)
 running_above ds h = (there (dec_le (common_multiple ds) limit), λ l. running_is ds h ∙ sym (above_limited (common_multiple ds) (common_multiple ds) l refl))
   where
-    there : Dec (common_multiple ds ≤ limit) → running ds ≡ Above → limit < common_multiple ds
+    there : Dec (common_multiple ds ≤ limit) → running ds ≡ None → limit < common_multiple ds
     there (yes k) e =
         let within = running_is ds h ∙ sym (within_limited (common_multiple ds) (common_multiple ds) k refl) in
         let z : ◌≡◌ {A = ℕ} 0 1 = cc in
         absurd (omega arith)
     there (no k) e = omega arith
 
-pub running_within : (ds : List ℕ) (m : ℕ) → 0 < common_multiple ds → running ds ≡ Within m → m ≡ common_multiple ds
+pub running_within : (ds : List ℕ) (m : ℕ) → 0 < common_multiple ds → running ds ≡ Some m → m ≡ common_multiple ds
 running_within ds m h e = go (dec_le (common_multiple ds) limit)
   where
     go : Dec (common_multiple ds ≤ limit) → m ≡ common_multiple ds

@@ -1,8 +1,7 @@
 -- What is proved of fractions, a line each; proofs/Promises.antt proves the whole record.
-use Rattle.std.specs.Prelude.{ℕ, ◌*◌, ◌/◌, ◌<◌, ◌≡◌, true, ◌↔◌, List}
+use Rattle.std.specs.Prelude.{ℕ, ◌*◌, ◌/◌, ◌<◌, ◌≡◌, true, ◌↔◌, List, Some}
 use Rattle.std.specs.Int.{◌∣◌}
 use Rattle.fraction.specs.declared.Fraction.{Fraction}
-use Rattle.fraction.specs.declared.Ticks.TheVariants.{Whole}
 use Rattle.fraction.specs.Value.{SameValue, LowestTerms, Above, IsTicks, IsCommonMultiple}
 use Rattle.fraction.specs.Answer.{lowest, is_lowest, above, whole_ticks, limited, common_multiple, running}
 
@@ -21,13 +20,13 @@ pub record Promises : Type 0 where
   pub multiple_only : (ds : List ℕ) (l : ℕ) → IsCommonMultiple ds l → l ≡ common_multiple ds
   pub running_is : (ds : List ℕ) → 0 < common_multiple ds → running ds ≡ limited (common_multiple ds)
   -- Ticks are exact; there are whole ticks whenever there can be; and a time n/m is n · (L/m) ticks of 1/L.
-  pub ticks_exact : (time tick : Fraction) (k : ℕ) → whole_ticks time tick ≡ Whole k → IsTicks time tick k
+  pub ticks_exact : (time tick : Fraction) (k : ℕ) → whole_ticks time tick ≡ Some k → IsTicks time tick k
   pub ticks_found :
       (time tick : Fraction) (k : ℕ) →
-      0 < time.denominator → 0 < tick.numerator → IsTicks time tick k → whole_ticks time tick ≡ Whole k
+      0 < time.denominator → 0 < tick.numerator → IsTicks time tick k → whole_ticks time tick ≡ Some k
   pub ticks_parts :
       (n m l : ℕ) → 0 < m → m ∣ l →
-      whole_ticks (record { numerator = n; denominator = m }) (record { numerator = 1; denominator = l }) ≡ Whole (n * (l / m))
+      whole_ticks (record { numerator = n; denominator = m }) (record { numerator = 1; denominator = l }) ≡ Some (n * (l / m))
   -- Other terms of the same time make no difference to its ticks.
   pub ticks_lowest : (f tick : Fraction) → whole_ticks (lowest f) tick ≡ whole_ticks f tick
   -- The test for above finds just that. One time is above another exactly when it is more ticks, whatever the tick; and other terms make no

@@ -12,47 +12,33 @@ pub struct Fraction {
     pub denominator: u32,
 }
 
-// A time in ticks, where it is a whole number of them.
-#[derive(Clone, Copy)]
-pub enum Ticks {
-    NotWhole,
-    Whole(u64),
-}
-
-// The least common multiple of some denominators, as long as it is within the limit.
-#[derive(Clone, Copy)]
-pub enum Multiple {
-    Above,
-    Within(u32),
-}
+// The largest multiple of denominators that a table takes: the tick is no finer than a millionth of a millisecond.
+pub const LIMIT: u32 = 1_000_000;
 
 // The whole product of two numbers of 32 bits.
 fn product(a: u32, b: u32) -> u64
     ensures { result ≡ a * b }
 {
-    (a as u64) * (b as u64)
+    u64::from(a) * u64::from(b)
 }
 
 // A number of 32 bits divided by one of 64; by 0 it is 0, as the library's quotient is.
 fn part(n: u32, divisor: u64) -> u32
     ensures { result ≡ n / divisor }
 {
-    if divisor == 0 {
-        return 0;
-    }
-    ((n as u64) / divisor) as u32
+    u64::from(n).checked_div(divisor).unwrap_or(0) as u32
 }
 
 // The greatest common divisor of two numbers of 32 bits.
 fn divisor_of(a: u32, b: u32) -> u64
     ensures { result ≡ gcd a b }
 {
-    let common = euclid::common_divisor(a as u64, b as u64);
-    common.divisor
+    euclid::common_divisor(u64::from(a), u64::from(b)).divisor
 }
 
 impl Fraction {
     // The same fraction in lowest terms: 0/m becomes 0/1. A fraction without a denominator is handed back as it came.
+    #[tactic(auto, unfolding(crate::specs::Answer::lowest))]
     pub fn lowest(self) -> Fraction
         ensures { result ≡ lowest self }
     {
@@ -67,16 +53,15 @@ impl Fraction {
     }
 
     // Whether this fraction is in lowest terms. One without a denominator is not.
+    #[tactic(auto, unfolding(crate::specs::Answer::is_lowest))]
     pub fn is_lowest(self) -> bool
         ensures { result ≡ is_lowest self }
     {
-        if self.denominator != 0 {
-            return divisor_of(self.numerator, self.denominator) == 1;
-        }
-        false
+        self.denominator != 0 && divisor_of(self.numerator, self.denominator) == 1
     }
 
     // Whether this fraction is above the other, by cross products.
+    // It is no PartialOrd, whose equality would be of values: 1/2 and 2/4 are two fractions.
     pub fn above(self, other: Fraction) -> bool
         ensures { result ≡ above self other }
     {
@@ -85,46 +70,37 @@ impl Fraction {
 
     // How many ticks this time is, where the tick is a fraction too. Where a denominator or the tick's numerator is 0
     // there is no whole number of ticks.
-    pub fn ticks(self, tick: Fraction) -> Ticks
+    #[tactic(auto, unfolding(crate::specs::Answer::whole_ticks))]
+    pub fn ticks(self, tick: Fraction) -> Option<u64>
         ensures { result ≡ whole_ticks self tick }
     {
         let time = product(self.numerator, tick.denominator);
         let unit = product(self.denominator, tick.numerator);
-        if unit == 0 {
-            return Ticks::NotWhole;
-        }
-        if time % unit == 0 {
-            Ticks::Whole(time / unit)
+        if unit != 0 && time % unit == 0 {
+            Some(time / unit)
         } else {
-            Ticks::NotWhole
+            None
         }
     }
 }
 
-impl Multiple {
-    // The largest multiple of denominators that a table takes: the tick is no finer than a millionth of a millisecond.
-    pub const LIMIT: u32 = 1_000_000;
-
-    // The multiple of these denominators and one more. What has passed the limit stays above it.
-    pub fn including(self, denominator: u32) -> Multiple
-        ensures answer { result ≡ included self denominator }
-        ensures constant { Multiple.LIMIT ≡ limit }
-    {
-        match self {
-            Multiple::Above => Multiple::Above,
-            Multiple::Within(multiple) => least(multiple, denominator),
-        }
-    }
+// The multiple of some denominators and one more, as long as it is within the limit. What has passed the limit stays above it.
+pub fn including(multiple: Option<u32>, denominator: u32) -> Option<u32>
+    ensures answer { result ≡ included multiple denominator }
+    ensures constant { LIMIT ≡ limit }
+{
+    least(multiple?, denominator)
 }
 
 // The least common multiple of two numbers, against the limit.
-fn least(a: u32, b: u32) -> Multiple
+#[tactic(auto, unfolding(euclid::specs::Answer::lcm))]
+fn least(a: u32, b: u32) -> Option<u32>
     ensures { result ≡ limited (lcm a b) }
 {
     let multiple = product(part(a, divisor_of(a, b)), b);
-    if multiple <= Multiple::LIMIT as u64 {
-        Multiple::Within(multiple as u32)
+    if multiple <= u64::from(LIMIT) {
+        Some(multiple as u32)
     } else {
-        Multiple::Above
+        None
     }
 }
