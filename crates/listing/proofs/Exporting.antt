@@ -1,9 +1,8 @@
 -- Export: its refusals follow the request's order, the ways through it on plain values, and how long a text it writes.
--- Core: export_follows, exported_tells, row_sayable. The rest follows from these.
+-- Core: export_follows, row_sayable. The rest follows from these.
 -- Assumes nothing.
 use Prim.Native.Nat.{ℕ, zero, suc, ◌+◌, ◌*◌, ◌<◌, ◌≤◌}
 use mathlib.Core.Path.{◌≡◌, refl, sym, ap, subst, ◌∙◌}
-use mathlib.Core.Logic.Iff
 use mathlib.Core.Logic.{◌↔◌}
 use mathlib.Core.List.{List, [], ◌∷◌, ◌++◌, map}
 use native.Mathlib.Nat.{dvd_of_mod-eq-zero, one-dvd, dvd-sub}
@@ -11,12 +10,13 @@ use native.Mathlib.Omega.{arith}
 use lib.Dec.{ltb}
 use lib.ListN.{length, get_or, drop, replicate, length-map, length-replicate}
 use borrow.Author.Tests.{lt-ltb, le-ltb}
+use Rattle.std.specs.Prelude.{Result, Ok, Err}
 use Rattle.refusal.specs.declared.Refusal.{Refusal}
 use Rattle.refusal.specs.declared.Refusal.TheVariants.{BufferTooShort}
-use Rattle.refusal.specs.Paper.{Said, paper, answers, refuse}
-use Rattle.refusal.specs.Order.{Check, None, Gives, refusals_of, at_each}
+use Rattle.refusal.specs.Paper.{Said, answers, refuse}
+use Rattle.refusal.specs.Order.{None, Gives, refusals_of, at_each}
 use Rattle.refusal.proofs.Orders.{none_of_both}
-use Rattle.refusal.proofs.Answers.{Tells, gives_exactly, refusing_only, answers_not_refuse, answers_only, refusals_both}
+use Rattle.refusal.proofs.Answers.{refusals_both}
 use Rattle.decimal.specs.Answer.{leading_within, decimal}
 use Rattle.fraction.specs.declared.Fraction.{Fraction}
 use Rattle.fraction.specs.Answer.{lowest}
@@ -28,20 +28,19 @@ use Rattle.table.specs.Row.{Words, capacity, numbers, entries, no_entry, row_of,
 use Rattle.table.specs.Given.{checked_order}
 use Rattle.table.specs.Answer.{test, or_else, first_refusal, no_denominator, no_time, entry_check, checked}
 use Rattle.table.proofs.Entries.{entries_length, entries_at, entries_few}
-use Rattle.table.proofs.Checks.{refused_not_passed, checked_trains}
+use Rattle.table.proofs.Checks.{checked_trains}
 use Rattle.table.proofs.InOrder.{ltb_is, Follows, follows_then, follows_last}
 use Rattle.table.proofs.Following.{checked_follows, checked_length, checked_whole, checked_sound}
 use Rattle.table.proofs.Numbers.{checked_in_order}
 use Rattle.table.proofs.Rows.{row_length, row_entries, lowest_at, lowest_row_same}
 use Rattle.judge.specs.Answer.{verdict}
 use Rattle.judge.proofs.Meaning.{verdict_same}
-use Rattle.listing.specs.declared.Exported.{Exported}
-use Rattle.listing.specs.declared.Exported.TheVariants as exports
 use Rattle.listing.specs.Means.{fraction, entry}
 use Rattle.listing.specs.Layout.{time_text, record_text, text_of, longest_export, Small, SmallEntry, HasDenominators}
 use Rattle.listing.specs.Given.{export_order}
 use Rattle.listing.specs.Paper.{paper_exported}
-use Rattle.listing.specs.Answer.{export_check, exported_after, exported, exported_in, buffer_after}
+use Rattle.listing.specs.Answer.{export_check, answer_after, exported, exported_in, buffer_after}
+use Rattle.listing.proofs.Answered.{answer_tells, answer_is, answer_gives, answer_passes}
 use Rattle.listing.proofs.Layouts.{Sayable, text_within, text_same}
 
 -- ---- The order of its refusals
@@ -62,85 +61,49 @@ export_in_order row room =
 
 -- ---- Its answers
 
-zero_not_one : ◌≡◌ {A = ℕ} 0 1 → ⊥
-zero_not_one z = omega arith
-
-exported_tells : Tells paper_exported exports.Refused refuse
-exported_tells = record { is = λ r. refl; only = found }
-  where
-    found :
-        (x : Exported) (number place : ℕ) → paper_exported x ≡ refuse number place →
-        (r : Refusal) × (x ≡ exports.Refused r) × (paper r ≡ record { number = number; place = place })
-    found (exports.Length n) number place e = absurd (answers_not_refuse e)
-    found (exports.Refused r) number place e = (r, refl, refusing_only r number place e)
-
-pub exported_is : (x : Exported) (n : ℕ) → (paper_exported x ≡ answers n) ↔ (x ≡ exports.Length n)
-exported_is (exports.Length m) n = ((λ e. ap exports.Length (answers_only e)), (λ e. ap paper_exported e))
-exported_is (exports.Refused r) n = ((λ e. absurd (answers_not_refuse (sym e))), (λ e. ap paper_exported e))
-
-after_refused : (o : Outcome) (n : ℕ) (r : Refusal) → (exported_after o n ≡ exports.Refused r) ↔ (o ≡ outcomes.Refused r)
-after_refused outcomes.Passed n r = ((λ e. absurd (zero_not_one cc)), (λ e. absurd (refused_not_passed r (sym e))))
-after_refused (outcomes.Refused q) n r = ((λ e. cc), (λ e. cc))
-
-after_length : (o : Outcome) (n k : ℕ) → (exported_after o n ≡ exports.Length k) ↔ ((o ≡ outcomes.Passed) × (n ≡ k))
-after_length outcomes.Passed n k = ((λ e. (refl, cc)), (λ e. ap exports.Length e.1))
-after_length (outcomes.Refused q) n k = ((λ e. absurd (zero_not_one cc)), (λ e. absurd (refused_not_passed q e.0)))
-
--- an answer after checks that follow an order has a number and a train exactly when the order gives them, and a value where none holds
-module _ (o : Outcome) (order : List Check) (follows : Follows o order) (value : ℕ) where
-  pub exported_gives : (number train : ℕ) → (paper_exported (exported_after o value) ≡ refuse number train) ↔ Gives order number train
-  exported_gives =
-      gives_exactly paper_exported exports.Refused refuse exported_tells order (exported_after o value)
-      (λ r. Iff.trans (after_refused o value r) (follows.refused r))
-
-  pub exported_answers : (n : ℕ) → (paper_exported (exported_after o value) ≡ answers n) ↔ (None order × (n ≡ value))
-  exported_answers n =
-      Iff.trans (exported_is (exported_after o value) n)
-      (Iff.trans (after_length o value n) ((λ w. (follows.passed.0 w.0, sym w.1)), (λ w. (follows.passed.1 w.0, sym w.1))))
-
 pub export_refused :
     (row : List ℕ) (room number train : ℕ) →
     (paper_exported (exported row room) ≡ refuse number train) ↔ Gives (export_order row room) number train
-export_refused row room = exported_gives (export_check row room) (export_order row room) (export_follows row room) _
+export_refused row room = answer_gives (export_check row room) (export_order row room) (export_follows row room) _
 
 pub export_answers :
     (row : List ℕ) (room n : ℕ) →
     (paper_exported (exported row room) ≡ answers n)
     ↔ (None (export_order row room) × (n ≡ length (text_of (map lowest_entry (entries row)))))
-export_answers row room = exported_answers (export_check row room) (export_order row room) (export_follows row room) _
+export_answers row room = answer_passes (export_check row room) (export_order row room) (export_follows row room) _
 
 -- ---- What it leaves in the buffer
 
-buffer_is : (row out : List ℕ) (answer : Exported) → exported row (length out) ≡ answer → buffer_after row out ≡ exported_in answer row out
-buffer_is row out answer e = ap (λ (a : Exported). exported_in a row out) e
+buffer_is : (row out : List ℕ) (answer : Result ℕ Refusal) → exported row (length out) ≡ answer → buffer_after row out ≡ exported_in answer row out
+buffer_is row out answer e = ap (λ (a : Result ℕ Refusal). exported_in a row out) e
 
 pub export_keeps :
     (row out : List ℕ) (number train : ℕ) → paper_exported (exported row (length out)) ≡ refuse number train → buffer_after row out ≡ out
 unfolding exported_in
 export_keeps row out number train e =
-    let found = exported_tells.only (exported row (length out)) number train e in
-    buffer_is row out (exports.Refused found.0) found.1
+    let found = answer_tells.only (exported row (length out)) number train e in
+    buffer_is row out (Err found.0) found.1
 
 pub export_written :
     (row out : List ℕ) (n : ℕ) → paper_exported (exported row (length out)) ≡ answers n →
     buffer_after row out ≡ text_of (map lowest_entry (entries row)) ++ drop n out
 unfolding exported_in
-export_written row out n e = buffer_is row out (exports.Length n) ((exported_is (exported row (length out)) n).0 e)
+export_written row out n e = buffer_is row out (Ok n) ((answer_is (exported row (length out)) n).0 e)
 
 -- ---- The ways through it
 
 module _ (row : List ℕ) (room : ℕ) (o : Outcome) (o_is : o ≡ checked row) where
   -- the answer, from the outcome of the row's checks
-  abbrev answer : Outcome → Exported
+  abbrev answer : Outcome → Result ℕ Refusal
   answer p =
-      exported_after (or_else p (test (ltb room (length (text_of (map lowest_entry (entries row))))) BufferTooShort))
+      answer_after (or_else p (test (ltb room (length (text_of (map lowest_entry (entries row))))) BufferTooShort))
       (length (text_of (map lowest_entry (entries row))))
 
   from_checks : answer o ≡ exported row room
   unfolding export_check
   from_checks = ap answer o_is
 
-  pub way_checked : (r : Refusal) → o ≡ outcomes.Refused r → exports.Refused r ≡ exported row room
+  pub way_checked : (r : Refusal) → o ≡ outcomes.Refused r → Err r ≡ exported row room
   way_checked r h = sym (ap answer h) ∙ from_checks
 
   module _ (passed : o ≡ outcomes.Passed) where
@@ -148,12 +111,12 @@ module _ (row : List ℕ) (room : ℕ) (o : Outcome) (o_is : o ≡ checked row) 
     room_left : answer outcomes.Passed ≡ exported row room
     room_left = sym (ap answer passed) ∙ from_checks
 
-    pub way_short : room < length (text_of (map lowest_entry (entries row))) → exports.Refused BufferTooShort ≡ exported row room
+    pub way_short : room < length (text_of (map lowest_entry (entries row))) → Err BufferTooShort ≡ exported row room
     way_short h = simp (lt-ltb room (length (text_of (map lowest_entry (entries row)))) h) at room_left
 
     pub way_written :
         length (text_of (map lowest_entry (entries row))) ≤ room →
-        exports.Length (length (text_of (map lowest_entry (entries row)))) ≡ exported row room
+        Ok (length (text_of (map lowest_entry (entries row)))) ≡ exported row room
     way_written h = simp (le-ltb room (length (text_of (map lowest_entry (entries row)))) h) at room_left
 
 -- ---- What is so of a row that is exported
@@ -268,7 +231,7 @@ module _ (n : ℕ) (e : Entry) (few : n ≤ capacity) (each : (k : ℕ) → entr
       let long : length (text_of (map lowest_entry (entries (row_of (replicate n e))))) ≡ 23 + n * length (record_text e) =
       ap length alike_text ∙ text_same n e in
       ap paper_exported
-      (sym (way_written (row_of (replicate n e)) _ outcomes.Passed (sym alike_checked) refl (omega arith)) ∙ ap exports.Length long)
+      (sym (way_written (row_of (replicate n e)) _ outcomes.Passed (sym alike_checked) refl (omega arith)) ∙ ap Ok long)
 
 -- A time of ten digits above and below.
 abbrev widest : Fraction

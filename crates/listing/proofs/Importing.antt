@@ -4,7 +4,6 @@
 use Prim.Native.Nat.{ℕ, zero, suc, ◌*◌, ◌<◌, ◌≤◌, ◌∣◌}
 use mathlib.Core.Path.{◌≡◌, refl, sym, ap, subst, ◌∙◌}
 use mathlib.Core.Bool.{Bool, true, false}
-use mathlib.Core.Logic.Iff
 use mathlib.Core.Logic.{◌↔◌, ⊎_elim, inr}
 use mathlib.Core.List.{List, [], ◌∷◌, ◌++◌, map}
 use native.Mathlib.Nat.{dvd-mul_left}
@@ -12,41 +11,35 @@ use native.Mathlib.Omega.{arith}
 use lib.Dec.{ltb}
 use lib.ListN.{length, get_or, drop}
 use borrow.Author.Tests.{lt-ltb, le-ltb, ltb-true, ltb-false}
+use Rattle.std.specs.Prelude.{Result, Err}
 use Rattle.refusal.specs.declared.Refusal.{Refusal}
 use Rattle.refusal.specs.declared.Refusal.TheVariants.{TrainCount, ZeroTime, DurationAbovePeriod, TextTooLong, BufferTooShort, BadRecord}
 use Rattle.refusal.specs.Paper.{Printed, paper, Said, answers, refuse}
 use Rattle.refusal.specs.Order.{in_turn, None, First, Gives, refusals_of, at_each}
 use Rattle.refusal.proofs.Orders.{first_of_both, first_each}
-use Rattle.refusal.proofs.Answers.{Tells, gives_exactly, refusing_only, answers_not_refuse, answers_only, refusals_both}
+use Rattle.refusal.proofs.Answers.{answers_not_refuse, refusals_both}
 use Rattle.fraction.specs.declared.Fraction.{Fraction}
 use Rattle.table.specs.declared.Entry.{Entry}
-use Rattle.table.specs.declared.Outcome.{Outcome}
-use Rattle.table.specs.declared.Outcome.TheVariants as outcomes
 use Rattle.table.specs.Row.{capacity, numbers, no_entry, row_of, lowest_entry, SameRow}
 use Rattle.table.specs.Given.{NoDenominator, train_checks, checked_order}
 use Rattle.table.specs.Answer.{checked}
-use Rattle.table.proofs.Checks.{refused_not_passed}
 use Rattle.table.proofs.InOrder.{ltb_is, Follows, follows_then, follows_last}
 use Rattle.table.proofs.Following.{checked_follows}
 use Rattle.table.proofs.Numbers.{checked_in_order}
 use Rattle.table.proofs.Rows.{row_length, row_entries, lowest_row_same}
 use Rattle.judge.specs.Answer.{verdict}
 use Rattle.judge.proofs.Meaning.{verdict_same}
-use Rattle.listing.specs.declared.Imported.{Imported}
-use Rattle.listing.specs.declared.Imported.TheVariants as imports
 use Rattle.listing.specs.Grammar.{File}
 use Rattle.listing.specs.Means.{Time, whole, parts, Phase, blank, time, Good, good, Goods, FirstUnfit, Listing, BadAt}
 use Rattle.listing.specs.Layout.{longest_text, Small, SmallEntry, HasDenominators}
 use Rattle.listing.specs.Given.{table_order, ImportRefuses, too_long}
 use Rattle.listing.specs.Paper.{paper_imported}
 use Rattle.listing.specs.Answer.{Listed, bad, trains, listed, trains_of}
-use Rattle.listing.specs.Answer.{table_check, imported_after, imported_of, imported, imported_in, row_after}
+use Rattle.listing.specs.Answer.{table_check, answer_after, imported_of, imported, imported_in, row_after}
+use Rattle.listing.proofs.Answered.{answer_tells, answer_is, answer_gives, answer_passes}
 use Rattle.listing.proofs.Texts.{never, trains_are, bad_is, read_listed, listing_read, read_bad, bad_read}
 use Rattle.listing.proofs.Unique.{files_one}
 use Rattle.listing.proofs.Counted.{bad_unfit, unfit_bad}
-
-zero_not_one : ◌≡◌ {A = ℕ} 0 1 → ⊥
-zero_not_one z = omega arith
 
 -- ---- Texts
 
@@ -117,46 +110,19 @@ table_follows es room =
     follows_then (checked (row_of es)) _ (checked_order (row_of es)) _ (checked_follows (row_of es))
     (λ passed. follows_last _ BufferTooShort _ (ltb_is room (length es * numbers)))
 
-after_refused : (o : Outcome) (k : ℕ) (r : Refusal) → (imported_after o k ≡ imports.Refused r) ↔ (o ≡ outcomes.Refused r)
-after_refused outcomes.Passed k r = ((λ e. absurd (zero_not_one cc)), (λ e. absurd (refused_not_passed r (sym e))))
-after_refused (outcomes.Refused q) k r = ((λ e. cc), (λ e. cc))
-
-after_count : (o : Outcome) (n k : ℕ) → (imported_after o n ≡ imports.Count k) ↔ ((o ≡ outcomes.Passed) × (k ≡ n))
-after_count outcomes.Passed n k = ((λ e. (refl, cc)), (λ e. ap imports.Count (sym e.1)))
-after_count (outcomes.Refused q) n k = ((λ e. absurd (zero_not_one cc)), (λ e. absurd (refused_not_passed q e.0)))
-
-imported_tells : Tells paper_imported imports.Refused refuse
-imported_tells = record { is = λ r. refl; only = found }
-  where
-    found :
-        (x : Imported) (number place : ℕ) → paper_imported x ≡ refuse number place →
-        (r : Refusal) × (x ≡ imports.Refused r) × (paper r ≡ record { number = number; place = place })
-    found (imports.Count k) number place e = absurd (answers_not_refuse e)
-    found (imports.Refused r) number place e = (r, refl, refusing_only r number place e)
-
-pub imported_is : (x : Imported) (k : ℕ) → (paper_imported x ≡ answers k) ↔ (x ≡ imports.Count k)
-imported_is (imports.Count j) k = ((λ e. ap imports.Count (answers_only e)), (λ e. ap paper_imported e))
-imported_is (imports.Refused r) k = ((λ e. absurd (answers_not_refuse (sym e))), (λ e. ap paper_imported e))
-
 module _ (es : List Entry) (room : ℕ) where
   -- what is answered of trains
-  abbrev of_trains : Imported
-  of_trains = imported_after (table_check es room) (length es)
+  abbrev of_trains : Result ℕ Refusal
+  of_trains = answer_after (table_check es room) (length es)
 
   trains_refused : (number place : ℕ) → (paper_imported of_trains ≡ refuse number place) ↔ Gives (table_order es room) number place
-  trains_refused =
-      gives_exactly paper_imported imports.Refused refuse imported_tells (table_order es room) of_trains
-      (λ r. Iff.trans (after_refused (table_check es room) (length es) r) ((table_follows es room).refused r))
+  trains_refused = answer_gives (table_check es room) (table_order es room) (table_follows es room) _
 
   trains_answered : (k : ℕ) → (paper_imported of_trains ≡ answers k) ↔ (None (table_order es room) × (k ≡ length es))
-  trains_answered k =
-      let passed = (table_follows es room).passed in
-      Iff.trans (imported_is of_trains k)
-      (Iff.trans (after_count (table_check es room) (length es) k)
-      ((λ w. (passed.0 w.0, w.1)), (λ w. (passed.1 w.0, w.1))))
+  trains_answered = answer_passes (table_check es room) (table_order es room) (table_follows es room) _
 
 module _ (text : List ℕ) (room : ℕ) where
-  pub imported_long : longest_text < length text → imported text room ≡ imports.Refused TextTooLong
+  pub imported_long : longest_text < length text → imported text room ≡ Err TextTooLong
   unfolding imported
   imported_long h = rw (lt-ltb longest_text (length text) h)
 
@@ -164,7 +130,7 @@ module _ (text : List ℕ) (room : ℕ) where
   unfolding imported
   imported_short h = rw (le-ltb longest_text (length text) h)
 
-  imported_bad : (k : ℕ) → length text ≤ longest_text → BadAt k text → imported text room ≡ imports.Refused (BadRecord k)
+  imported_bad : (k : ℕ) → length text ≤ longest_text → BadAt k text → imported text room ≡ Err (BadRecord k)
   imported_bad k h y = imported_short h ∙ ap (imported_of room) (bad_read text k y)
 
   imported_trains : (es : List Entry) → length text ≤ longest_text → Listing text es → imported text room ≡ of_trains es room
@@ -225,17 +191,17 @@ import_refused text room number place = (refused_says text room number place, sa
 
 -- what import leaves is what its answer says
 pub row_is :
-    (text before : List ℕ) (answer : Imported) → imported text (length before) ≡ answer →
+    (text before : List ℕ) (answer : Result ℕ Refusal) → imported text (length before) ≡ answer →
     row_after text before ≡ imported_in answer text before
-row_is text before answer e = ap (λ (a : Imported). imported_in a text before) e
+row_is text before answer e = ap (λ (a : Result ℕ Refusal). imported_in a text before) e
 
 pub import_keeps :
     (text before : List ℕ) (number place : ℕ) →
     paper_imported (imported text (length before)) ≡ refuse number place → row_after text before ≡ before
 unfolding imported_in
 import_keeps text before number place e =
-    let found = imported_tells.only (imported text (length before)) number place e in
-    row_is text before (imports.Refused found.0) found.1
+    let found = answer_tells.only (imported text (length before)) number place e in
+    row_is text before (Err found.0) found.1
 
 -- ---- 2 is never given
 
@@ -325,7 +291,7 @@ pub import_written :
 unfolding imported_in
 import_written text before es h y none =
     let room : ℕ = length before in
-    let count = (imported_is (imported text room) (length es)).0
+    let count = (answer_is (imported text room) (length es)).0
     (ap paper_imported (imported_trains text room es h y) ∙ (trains_answered es room (length es)).1 (none, refl)) in
     row_is text before _ count
     ∙ ap (λ (x : Listed). row_of (map lowest_entry (trains_of x)) ++ drop (length es * numbers) before) (listing_read text es y)

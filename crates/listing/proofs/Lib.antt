@@ -7,6 +7,7 @@
 --     Texts               what is read of a text is what it lists, and the record that is refused its first bad one
 --     Unique              a text has one list of records at most
 --     Counted             of a text that is well-formed to its end, the first bad record is the first that is not good
+--     Answered            a number or a refusal, in the paper's words
 --     Importing           what is promised of import
 --     Layouts             the text of trains is a file of their records; how long it is
 --     Lists               the text of trains lists them
@@ -20,6 +21,7 @@ pub mod Records
 pub mod Texts
 pub mod Unique
 pub mod Counted
+pub mod Answered
 pub mod Importing
 pub mod Layouts
 pub mod Lists

@@ -14,17 +14,17 @@
 --     listed l                          what a text lists
 --     trains_of x                       the trains that are listed
 --     table_check es room               refusals 1 to 4 and 8 of the trains of a listing
---     imported_after o k                the answer: the count, or the refusal that there is
+--     answer_after o n                  an answer: the number, or the refusal that there is
 --     imported_of room x                the answer for what a text lists
 --     imported text room                what `import` answers
 --     imported_in answer text before    what it leaves in the row
 --     row_after text before             the same, with the answer that it gives
 --     export_check row room             all refusals of export
---     exported_after o n                the answer: the length, or the refusal that there is
 --     exported row room                 what `export` answers
 --     exported_in answer row before     what it leaves in the buffer
 --     buffer_after row before           the same, with the answer that it gives
-use Rattle.std.specs.Prelude.{ℕ, zero, suc, ◌*◌, cond, List, [], ◌∷◌, ◌++◌, map, ltb, eqb, length, get_or, drop}
+use Rattle.std.specs.Prelude.{ℕ, zero, suc, ◌*◌, cond, List, [], ◌∷◌, ◌++◌, map, ltb, eqb, length, get_or, drop, Result, Ok, Err}
+use Rattle.refusal.specs.declared.Refusal.{Refusal}
 use Rattle.refusal.specs.declared.Refusal.TheVariants.{TextTooLong, BufferTooShort, BadRecord}
 use Rattle.lent.specs.Words.{begins_with}
 use Rattle.decimal.specs.Answer.{Found, nothing, found, number_in}
@@ -34,10 +34,6 @@ use Rattle.table.specs.declared.Outcome.{Outcome}
 use Rattle.table.specs.declared.Outcome.TheVariants as outcomes
 use Rattle.table.specs.Row.{numbers, entries, row_of, lowest_entry}
 use Rattle.table.specs.Answer.{test, or_else, checked}
-use Rattle.listing.specs.declared.Imported.{Imported}
-use Rattle.listing.specs.declared.Imported.TheVariants as imports
-use Rattle.listing.specs.declared.Exported.{Exported}
-use Rattle.listing.specs.declared.Exported.TheVariants as exports
 use Rattle.listing.specs.Grammar.{quote, comma, return, newline}
 use Rattle.listing.specs.Means.{slash, fraction, blank_phase, entry, phase_word, period_word, duration_word}
 use Rattle.listing.specs.Layout.{text_of, longest_text}
@@ -138,24 +134,24 @@ trains_of (trains es) = es
 unfoldable pub table_check : (es : List Entry) (room : ℕ) → Outcome
 table_check es room = or_else (checked (row_of es)) (test (ltb room (length es * numbers)) BufferTooShort)
 
--- The count of trains, or the refusal.
-abbrev pub imported_after : Outcome → ℕ → Imported
-imported_after outcomes.Passed k = imports.Count k
-imported_after (outcomes.Refused r) k = imports.Refused r
+-- Where the checks pass the number, and else the refusal.
+abbrev pub answer_after : Outcome → ℕ → Result ℕ Refusal
+answer_after outcomes.Passed n = Ok n
+answer_after (outcomes.Refused r) n = Err r
 
 -- The first bad record, or what there is to say of the trains.
-abbrev pub imported_of : (room : ℕ) → Listed → Imported
-imported_of room (bad k) = imports.Refused (BadRecord k)
-imported_of room (trains es) = imported_after (table_check es room) (length es)
+abbrev pub imported_of : (room : ℕ) → Listed → Result ℕ Refusal
+imported_of room (bad k) = Err (BadRecord k)
+imported_of room (trains es) = answer_after (table_check es room) (length es)
 
 -- What `import` answers for a text and a row of that length.
-unfoldable pub imported : (text : List ℕ) (room : ℕ) → Imported
-imported text room = cond (ltb longest_text (length text)) (imports.Refused TextTooLong) (imported_of room (listed text))
+unfoldable pub imported : (text : List ℕ) (room : ℕ) → Result ℕ Refusal
+imported text room = cond (ltb longest_text (length text)) (Err TextTooLong) (imported_of room (listed text))
 
 -- After a count the row has the trains of the listing in lowest terms and then what it had; after a refusal all that it had.
-unfoldable pub imported_in : Imported → (text before : List ℕ) → List ℕ
-imported_in (imports.Count k) text before = row_of (map lowest_entry (trains_of (listed text))) ++ drop (k * numbers) before
-imported_in (imports.Refused r) text before = before
+unfoldable pub imported_in : Result ℕ Refusal → (text before : List ℕ) → List ℕ
+imported_in (Ok k) text before = row_of (map lowest_entry (trains_of (listed text))) ++ drop (k * numbers) before
+imported_in (Err r) text before = before
 
 -- What stands in a row after `import` was called with it.
 abbrev pub row_after : (text before : List ℕ) → List ℕ
@@ -168,19 +164,14 @@ unfoldable pub export_check : (row : List ℕ) (room : ℕ) → Outcome
 export_check row room =
     or_else (checked row) (test (ltb room (length (text_of (map lowest_entry (entries row))))) BufferTooShort)
 
--- The length that was written, or the refusal.
-abbrev pub exported_after : Outcome → ℕ → Exported
-exported_after outcomes.Passed n = exports.Length n
-exported_after (outcomes.Refused r) n = exports.Refused r
-
 -- What `export` answers for a row and a buffer of that length.
-abbrev pub exported : (row : List ℕ) (room : ℕ) → Exported
-exported row room = exported_after (export_check row room) (length (text_of (map lowest_entry (entries row))))
+abbrev pub exported : (row : List ℕ) (room : ℕ) → Result ℕ Refusal
+exported row room = answer_after (export_check row room) (length (text_of (map lowest_entry (entries row))))
 
 -- After a length the buffer has the text of the trains in lowest terms and then what it had; after a refusal all that it had.
-unfoldable pub exported_in : Exported → (row before : List ℕ) → List ℕ
-exported_in (exports.Length n) row before = text_of (map lowest_entry (entries row)) ++ drop n before
-exported_in (exports.Refused r) row before = before
+unfoldable pub exported_in : Result ℕ Refusal → (row before : List ℕ) → List ℕ
+exported_in (Ok n) row before = text_of (map lowest_entry (entries row)) ++ drop n before
+exported_in (Err r) row before = before
 
 -- What stands in a buffer after `export` was called with it.
 abbrev pub buffer_after : (row before : List ℕ) → List ℕ
