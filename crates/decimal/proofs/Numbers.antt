@@ -18,10 +18,6 @@ use Rattle.decimal.proofs.Notation.{decimal_is}
 -- ---- A digit
 
 module _ (b : ℕ) where
-  pub digit_below : b < 48 → false ≡ is_digit b
-  unfolding is_digit
-  digit_below h = simp (lt-ltb b 48 h)
-
   pub digit_from : 48 ≤ b → leb b 57 ≡ is_digit b
   unfolding is_digit
   digit_from h = simp (le-ltb b 48 h)

@@ -3,21 +3,39 @@
 -- Assumes nothing.
 use Prim.Native.Nat.{ℕ, ◌+◌, ◌-◌, ◌^◌, ◌<◌, ◌≤◌}
 use mathlib.Core.Path.{◌≡◌, refl, sym, ap, ◌∙◌}
-use mathlib.Core.Bool.{true, false, cond}
+use mathlib.Core.Bool.{Bool, true, false, cond, ◌&&◌}
 use mathlib.Core.List.{List}
 use native.Mathlib.Nat.{add-zero}
 use native.Mathlib.Numerals.{add-one}
 use native.Mathlib.Omega.{arith}
-use lib.Dec.{ltb}
-use lib.ListN.{length, get_or, drop, drop_of_length-le, length-append, length-drop}
-use lib.Seq.{drop-cons, get_or-drop, drop-drop, drop-append_seam}
-use borrow.Author.Tests.{lt-ltb, le-ltb}
-use Rattle.decimal.specs.declared.Number.TheVariants as numbers
+use lib.Dec.{ltb, leb}
+use Rattle.std.specs.Char.{is_ascii_digit}
+use Rattle.std.specs.Prelude.{Option, None, Some}
+use lib.ListN.{length, get_or, take, drop, drop_of_length-le, length-append, length-drop}
+use lib.Seq.{take-length, drop-cons, get_or-drop, drop-drop, drop-append_seam}
+use borrow.Author.Tests.{lt-ltb, le-ltb, lt-leb, le-leb, ltb-true, ltb-false}
+use Rattle.decimal.specs.declared.Number.{Number}
 use Rattle.decimal.specs.Answer.{is_digit, longer, Found, nothing, found, digits_from, number_in, indexed, number_at}
 use Rattle.decimal.specs.Inside.{found_at}
 use Rattle.decimal.proofs.Numbers.{Numbered, found_is}
 
 -- ---- Digits
+
+-- the test of the library is that of the definition
+pub ascii_digit : (b : ℕ) → is_ascii_digit b ≡ is_digit b
+unfolding is_digit
+ascii_digit b = go (ltb b 48) refl
+  where
+    go : (t : Bool) → ltb b 48 ≡ t → leb 48 b && leb b 57 ≡ cond t false (leb b 57)
+    go true e = rw (lt-leb 48 b (ltb-true b 48 e))
+    go false e = rw (le-leb 48 b (ltb-false b 48 e))
+
+pub is_one : (b : ℕ) {t u : Bool} → t ≡ is_ascii_digit b → t ≡ u → is_digit b ≡ u
+is_one b e f = sym (ascii_digit b) ∙ sym e ∙ f
+
+-- what a slice from an index on is
+pub rest_of : (text : List ℕ) (at : ℕ) → at ≤ length text → take (length text - at) (drop at text) ≡ drop at text
+rest_of text at h = ap (λ (n : ℕ). take n (drop at text)) (sym (length-drop at text)) ∙ take-length (drop at text)
 
 module _ (v : ℕ) (text : List ℕ) (at : ℕ) where
   pub digits_end : length text ≤ at → found v (drop at text) ≡ digits_from v (drop at text)
@@ -44,23 +62,24 @@ module _ (v : ℕ) (text : List ℕ) (at : ℕ) where
       pub digits_over : 2 ^ 32 ≤ w → nothing ≡ digits_from v (drop at text)
       digits_over h = rw (digits_at within, digit, ← w-is, le-ltb w (2 ^ 32) h)
 
--- the index where the rest begins
-index_of : (text : List ℕ) (end : ℕ) → end ≤ length text → length text - length (drop end text) ≡ end
-index_of text end h = omega (arith, length-drop end text)
+abbrev pub answered : (value end : ℕ) → Option Number
+answered value end = Some (record { value = value; end = end })
 
+-- the index where the rest begins, and the number that is found before it
 pub found_there :
-    (v : ℕ) (text : List ℕ) (end : ℕ) (f : Found ℕ) → end ≤ length text → found v (drop end text) ≡ f →
-    numbers.Found v end ≡ indexed (length text) f
-found_there v text end f h e =
-    ap (λ (i : ℕ). numbers.Found v i) (sym (index_of text end h)) ∙ ap (indexed (length text)) e
+    (v : ℕ) (text : List ℕ) (at k : ℕ) (items : List ℕ) (f : Found ℕ) → items ≡ drop at text → at ≤ length text → k ≤ length items →
+    found v (drop k items) ≡ f → answered v (at + k) ≡ indexed (length text) f
+found_there v text at k items f i h l e =
+    let ends : at + k ≡ length text - length (drop k items) = omega (arith, length-drop k items, ap length i, length-drop at text) in
+    ap (answered v) ends ∙ ap (indexed (length text)) e
 
-pub found_nothing : (length· : ℕ) (f : Found ℕ) → nothing ≡ f → numbers.Missing ≡ indexed length· f
+pub found_nothing : (length· : ℕ) (f : Found ℕ) → nothing ≡ f → None ≡ indexed length· f
 found_nothing length· f e = ap (indexed length·) e
 
 -- ---- A number
 
 module _ (text : List ℕ) (at : ℕ) where
-  pub number_end : length text ≤ at → numbers.Missing ≡ number_at text at
+  pub number_end : length text ≤ at → None ≡ number_at text at
   unfolding number_in is_digit
   number_end h = rw (drop_of_length-le text h)
 
@@ -68,7 +87,7 @@ module _ (text : List ℕ) (at : ℕ) where
   unfolding number_in
   number_first = rw (get_or-drop at text 0 0, add-zero)
 
-  pub number_no_digit : is_digit (get_or text at 0) ≡ false → numbers.Missing ≡ number_at text at
+  pub number_no_digit : is_digit (get_or text at 0) ≡ false → None ≡ number_at text at
   number_no_digit h = found_nothing (length text) (number_in (drop at text)) (rw (number_first, h))
 
   pub number_digits : is_digit (get_or text at 0) ≡ true → indexed (length text) (digits_from 0 (drop at text)) ≡ number_at text at
@@ -100,14 +119,15 @@ found_again text at = go (number_in (drop at text)) refl
 
 -- it stands behind the index where it began, and within the text
 pub read_index :
-    (text : List ℕ) (at n end : ℕ) → number_at text at ≡ numbers.Found n end → (at < end) × (end ≤ length text)
-read_index text at n end e = go (number_in (drop at text)) refl e
+    (text : List ℕ) (at : ℕ) (number : Number) → number_at text at ≡ Some number →
+    (at < number.end) × (number.end ≤ length text)
+read_index text at number e = go (number_in (drop at text)) refl e
   where
     go :
-        (f : Found ℕ) → number_in (drop at text) ≡ f → indexed (length text) f ≡ numbers.Found n end →
-        (at < end) × (end ≤ length text)
+        (f : Found ℕ) → number_in (drop at text) ≡ f → indexed (length text) f ≡ Some number →
+        (at < number.end) × (number.end ≤ length text)
     go nothing g e = absurd (let z : ◌≡◌ {A = ℕ} 0 1 = cc in omega arith)
     go (found m rest) g e =
         let r = found_is (drop at text) m rest g in
-        let there : length text - length rest ≡ end = cc in
+        let there : length text - length rest ≡ number.end = cc in
         (omega (arith, ends_at text at m rest r, r.number.some), omega arith)

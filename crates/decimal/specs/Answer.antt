@@ -9,9 +9,8 @@
 --     number_in text           the number that digits say at the front of a text
 --     indexed length f         the same with the index behind the number, in a text of that length
 --     number_at text at        what `read` answers
-use Rattle.std.specs.Prelude.{ℕ, zero, suc, ◌+◌, ◌*◌, ◌-◌, ◌/◌, ◌%◌, ◌^◌, Bool, false, cond, List, [], ◌∷◌, ◌++◌, ltb, leb, length, get_or, drop}
+use Rattle.std.specs.Prelude.{ℕ, zero, suc, ◌+◌, ◌*◌, ◌-◌, ◌/◌, ◌%◌, ◌^◌, Bool, false, cond, List, [], ◌∷◌, ◌++◌, ltb, leb, length, get_or, drop, Option, None, Some}
 use Rattle.decimal.specs.declared.Number.{Number}
-use Rattle.decimal.specs.declared.Number.TheVariants as numbers
 use Rattle.decimal.specs.Digits.{worth}
 
 -- The byte of a digit.
@@ -52,10 +51,10 @@ unfoldable pub number_in : List ℕ → Found ℕ
 number_in text = cond (is_digit (get_or text 0 0)) (digits_from 0 text) nothing
 
 -- The index behind a number that was found is where the rest of the text begins.
-abbrev pub indexed : (length· : ℕ) → Found ℕ → Number
-indexed length· nothing = numbers.Missing
-indexed length· (found n rest) = numbers.Found n (length· - length rest)
+abbrev pub indexed : (length· : ℕ) → Found ℕ → Option Number
+indexed length· nothing = None
+indexed length· (found n rest) = Some (record { value = n; end = length· - length rest })
 
 -- The number that begins at an index of a text.
-abbrev pub number_at : (text : List ℕ) (at : ℕ) → Number
+abbrev pub number_at : (text : List ℕ) (at : ℕ) → Option Number
 number_at text at = indexed (length text) (number_in (drop at text))

@@ -1,7 +1,7 @@
 -- What is proved of numbers as text, a line each; proofs/Promises.antt proves the whole record.
-use Rattle.std.specs.Prelude.{ℕ, ◌^◌, ◌<◌, ◌≤◌, ◌≡◌, ◌↔◌, List, [], ◌++◌, length}
+use Rattle.std.specs.Prelude.{ℕ, ◌^◌, ◌<◌, ◌≤◌, ◌≡◌, ◌↔◌, List, [], ◌++◌, length, Some}
 use Rattle.decimal.specs.Digits.{IsDecimal, Number, Stops}
-use Rattle.decimal.specs.declared.Number.TheVariants as numbers
+use Rattle.decimal.specs.declared.Number as declared
 use Rattle.decimal.specs.Answer.{decimal, found, number_in, number_at}
 
 pub record Promises : Type 0 where
@@ -22,4 +22,6 @@ pub record Promises : Type 0 where
   -- What is written is read back.
   pub read_back : (n : ℕ) (rest : List ℕ) → n < 2 ^ 32 → Stops rest → number_in (decimal n ++ rest) ≡ found n rest
   -- The index that `read` answers stands behind the one where the number began, and within the text.
-  pub read_index : (text : List ℕ) (at n end : ℕ) → number_at text at ≡ numbers.Found n end → (at < end) × (end ≤ length text)
+  pub read_index :
+      (text : List ℕ) (at : ℕ) (number : declared.Number) → number_at text at ≡ Some number →
+      (at < number.end) × (number.end ≤ length text)

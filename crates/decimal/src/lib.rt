@@ -2,22 +2,18 @@
 // No public function has a `requires`: without room nothing is written, and what is no number of 32 bits is missing.
 #![tactic(auto)]
 
-ghost use Rattle.std.specs.Prelude.{◌≡◌, ◌+◌, ◌≤◌, ◌<◌, ◌^◌, length, drop};
+ghost use Rattle.std.specs.Prelude.{◌≡◌, ◌+◌, ◌≤◌, ◌<◌, ◌^◌, length, drop, SomeIff};
 ghost use Rattle.lent.specs.Lent.{over, fitted, end_in};
-ghost use Rattle.decimal.specs.Answer.{decimal, is_digit, digits_from, indexed, number_at};
+ghost use Rattle.decimal.specs.Answer.{decimal, digits_from, indexed, number_at};
 ghost use Rattle.decimal.specs.Answer.{longer as Answer·longer};
 
-// What `read` answers.
+// A number that was read.
 #[derive(Clone, Copy)]
-pub enum Number {
-    // No number of 32 bits stands there.
-    Missing,
-    // Its value, and the index behind its last digit.
-    Found(u32, usize),
+pub struct Number {
+    pub value: u32,
+    // The index behind its last digit.
+    pub end: usize,
 }
-
-// No number is so great: 2^32.
-const LIMIT: u64 = 4_294_967_296;
 
 // How many digits n has.
 pub fn width(n: u64) -> usize
@@ -61,54 +57,41 @@ pub fn put(n: u64, out: &mut [u8], at: usize) -> usize
     end
 }
 
-// Whether a byte is one of the digits 0 to 9.
-fn is_digit(byte: u8) -> bool
-    ensures { result ≡ is_digit byte }
+// The number before, with one more digit at its end, if it is one of 32 bits.
+fn longer(value: u32, digit: u8) -> Option<u32>
+    requires { 48 ≤ digit }
+    ensures { SomeIff result (Answer·longer value digit < 2 ^ 32) (Answer·longer value digit) }
 {
-    if byte < b'0' {
-        return false;
-    }
-    byte <= b'9'
+    value.checked_mul(10)?.checked_add(u32::from(digit - b'0'))
 }
 
-// The number before, with one more digit at its end.
-fn longer(value: u64, digit: u8) -> u64
-    requires { (value < 2 ^ 32) × (48 ≤ digit) }
-    ensures { result ≡ Answer·longer value digit }
-{
-    value * 10 + (digit - b'0') as u64
-}
-
-// The number whose digits begin there, if it is below 2^32. No digit counts as 0, so the caller looks at the first.
-fn digits(text: &[u8], at: usize) -> Number
+// The number whose digits begin there, if it is one of 32 bits. No digit counts as 0, so the caller looks at the first.
+fn digits(text: &[u8], at: usize) -> Option<Number>
     requires { at ≤ length text.now }
     ensures { result ≡ indexed (length text.now) (digits_from 0 (drop at text.now)) }
 {
     let mut value = 0;
-    let mut next = at;
-    while next < text.len() {
-        let byte = text[next];
-        if !is_digit(byte) {
-            return Number::Found(value as u32, next);
+    for (passed, digit) in text[at..].iter().enumerate() {
+        if !digit.is_ascii_digit() {
+            return Some(Number {
+                value,
+                end: at + passed,
+            });
         }
-        value = longer(value, byte);
-        if value >= LIMIT {
-            return Number::Missing;
-        }
-        next += 1;
+        value = longer(value, *digit)?;
     }
-    Number::Found(value as u32, next)
+    Some(Number {
+        value,
+        end: text.len(),
+    })
 }
 
 // The number whose digits begin at an index of a text and go on as far as they go. Zeros may lead.
-pub fn read(text: &[u8], at: usize) -> Number
+pub fn read(text: &[u8], at: usize) -> Option<Number>
     ensures { result ≡ number_at text.now at }
 {
-    if at >= text.len() {
-        return Number::Missing;
-    }
-    if !is_digit(text[at]) {
-        return Number::Missing;
+    if !text.get(at)?.is_ascii_digit() {
+        return None;
     }
     digits(text, at)
 }

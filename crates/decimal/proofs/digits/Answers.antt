@@ -1,38 +1,39 @@
 -- `digits` meets its contract. The loop's invariant: the number that is found from the first digit on is the one that is found
--- from here on, behind those that were passed. The measure is the bytes that are left.
-use mathlib.Core.Path.{refl, sym, ◌∙◌}
+-- from here on, behind those that were passed.
+use mathlib.Core.Path.{refl, sym, ap, ◌∙◌}
 use native.Mathlib.Omega.{arith}
-use borrow.Author.Rules.{rules}
-use Rattle.decimal.proofs.Numbers.{is_from}
-use Rattle.decimal.proofs.Ways.{digits_end, digits_stop, digits_on, digits_over, found_there, found_nothing}
+use lib.ListN.{length, length-drop}
+use Rattle.decimal.specs.Answer.{digits_from}
+use Rattle.decimal.proofs.Ways.{is_one, answered, rest_of, digits_end, digits_stop, digits_on, digits_over, found_there, found_nothing}
 use Rattle.decimal.proofs.digits.Goals as goal
 
-pub loop-next-init : goal.loop-next-init
-loop-next-init c = (c.requires, search rules, refl)
+pub loop-passed-init : goal.loop-passed-init
+loop-passed-init c = ap (digits_from 0) (rest_of c.args.text.now c.args.at c.requires)
 
-pub returns-then-not-is_digit : goal.returns-then-not-is_digit
-returns-then-not-is_digit c = found_there _ _ _ _ c.loop-next.invariant.0
-    (digits_stop _ _ _ c.loop-next-test.true (sym c.is_digit.ensures ∙ c.if-not-is_digit.true)
-    ∙ c.loop-next.invariant.2)
+pub returns-then-not-is_ascii_digit : goal.returns-then-not-is_ascii_digit
+returns-then-not-is_ascii_digit c =
+    found_there _ _ _ _ _ _ (rest_of c.args.text.now c.args.at c.requires) c.requires (omega (arith, c.loop-passed-test.true))
+    (digits_stop _ _ _ c.loop-passed-test.true (is_one _ c.is_ascii_digit.ensures.value c.if-not-is_ascii_digit.true)
+    ∙ c.loop-passed.invariant)
 
-pub longer-value-requires : goal.longer-value-requires
-longer-value-requires c = (c.loop-next.invariant.1, is_from _ (sym c.is_digit.ensures ∙ c.if-not-is_digit.false))
+pub returns-in_err-value : goal.returns-in_err-value
+returns-in_err-value c =
+    c.from_residual.ensures
+    ∙ found_nothing _ _
+    (digits_over _ _ _ c.loop-passed-test.true (is_one _ c.is_ascii_digit.ensures.value c.if-not-is_ascii_digit.false) _ refl
+    (omega (arith, c.in_err-value.ensures))
+    ∙ c.loop-passed.invariant)
 
-pub returns-then-value-ge-LIMIT : goal.returns-then-value-ge-LIMIT
-returns-then-value-ge-LIMIT c = found_nothing _ _
-    (digits_over _ _ _ c.loop-next-test.true (sym c.is_digit.ensures ∙ c.if-not-is_digit.false) _
-    c.longer-value.ensures c.if-value-ge-LIMIT.true
-    ∙ c.loop-next.invariant.2)
-
-pub loop-next-preserved : goal.loop-next-preserved
-loop-next-preserved c = (
-  omega (arith, c.loop-next-test.true),
-  c.if-value-ge-LIMIT.false,
-  digits_on _ _ _ c.loop-next-test.true (sym c.is_digit.ensures ∙ c.if-not-is_digit.false) _
-      c.longer-value.ensures c.if-value-ge-LIMIT.false
-      ∙ c.loop-next.invariant.2,
-)
+pub loop-passed-preserved : goal.loop-passed-preserved
+loop-passed-preserved c =
+    digits_on _ _ _ c.loop-passed-test.true (is_one _ c.is_ascii_digit.ensures.value c.if-not-is_ascii_digit.false) _
+    c.in_ok-value.ensures.1
+    (omega (arith, c.in_ok-value.ensures.0, c.in_ok-value.ensures.1))
+    ∙ c.loop-passed.invariant
 
 pub returns : goal.returns
 returns c =
-    found_there _ _ _ _ c.loop-next.invariant.0 (digits_end _ _ _ c.loop-next-test.false ∙ c.loop-next.invariant.2)
+    let rest = rest_of c.args.text.now c.args.at c.requires in
+    ap (answered c.loop-passed.value) (omega (arith, c.loop-passed-test.false, c.loop-passed.auto.passed-end, ap length rest, length-drop c.args.at c.args.text.now))
+    ∙ found_there _ _ _ _ _ _ rest c.requires (omega (arith, c.loop-passed.auto.passed-end))
+    (digits_end _ _ _ c.loop-passed-test.false ∙ c.loop-passed.invariant)
