@@ -1,28 +1,20 @@
--- The ways through the test of the numbers and through the test of a pair, the answer of `compare`, and that which of two trains is
+-- The last way through the test of the numbers, the ways through the test of a pair, the answer of `compare`, and that which of two trains is
 -- named first makes no difference.
 -- Assumes nothing.
 use Prim.Native.Nat.{ℕ, ◌+◌, ◌-◌, ◌%◌, ◌<◌, ◌≤◌}
 use mathlib.Core.Path.{◌≡◌, sym, ap, ◌∙◌}
-use mathlib.Core.Bool.{Bool, false}
+use mathlib.Core.Bool.{Bool}
 use native.Mathlib.Omega.{arith}
 use lib.Dec.{leb}
-use borrow.Author.Tests.{le-leb, lt-leb, lt-ltb, le-ltb}
+use borrow.Author.Tests.{le-leb, lt-leb, lt-ltb}
 use Rattle.euclid.specs.declared.Common.{Common}
 use Rattle.euclid.specs.Answer.{gcd, common}
 use Rattle.euclid.proofs.Divisor.{gcd_comm}
 use Rattle.train.specs.declared.Train.{Train}
 use Rattle.train.specs.Answer.{expression, free, pair}
 
--- the ways through the code's test
+-- the test, where there is a divisor and the first part holds
 module _ (g difference first second : ℕ) where
-  pub expression_no_divisor : g ≡ 0 → false ≡ expression g difference first second
-  unfolding expression
-  expression_no_divisor h = simp (le-ltb 0 g (omega arith))
-
-  pub expression_too_early : (g ≡ 0 → ⊥) → difference % g < first → false ≡ expression g difference first second
-  unfolding expression
-  expression_too_early h k = simp (lt-ltb 0 g (omega arith), lt-leb first (difference % g) k)
-
   pub expression_last : (g ≡ 0 → ⊥) → first ≤ difference % g → leb (difference % g + second) g ≡ expression g difference first second
   unfolding expression
   expression_last h k = simp (lt-ltb 0 g (omega arith), le-leb first (difference % g) k)
@@ -52,3 +44,6 @@ free_turned a b h =
     sym (free_later a b h)
     ∙ ap (λ (g : ℕ). expression g (a.phase - b.phase) b.duration a.duration) (gcd_comm a.period b.period)
     ∙ free_ordered b a (omega arith)
+
+-- what `compare` is proved by
+pub ruleset compare_ways = (compared, free_ordered, free_later)
