@@ -4,21 +4,25 @@
 // name, as those over memory; of those of the system it cannot.
 #![tactic(auto)]
 
-ghost use Rattle.std.specs.Prelude.{◌≤◌, length, take, ◌<◌, IsTrue};
+ghost use Rattle.std.specs.Prelude.{◌≤◌, ◌<◌, length, take, IfOk, OnOk};
+ghost use Rattle.std.specs.Io.{ReadsAtMost, WritesAtMost};
 ghost use Rattle.std.specs.Io.KnownBytes.{Appends};
-ghost use Rattle.stream.specs.Reading.{Front, Taken, EndedAtNone, EndedShort};
+ghost use Rattle.stream.specs.Reading.{Taken, EndedAtNone, EndedShort};
 
 use std::io::{Cursor, Error, ErrorKind, Read, Write};
-use std::thread;
+use std::{fmt, thread};
 
-// What a reading answers.
-#[derive(Clone, Copy)]
-pub enum Input {
-    // So many bytes were read, and stand at the front of the buffer.
-    Bytes(usize),
-    // The input cannot be read, which has been said.
-    Fault,
+// Standard input could not be read, or standard output not be written, which has been said.
+#[derive(Clone, Copy, Debug, PartialEq, Eq)]
+pub struct Fault;
+
+impl fmt::Display for Fault {
+    fn fmt<W: fmt::Write>(&self, f: &mut fmt::Formatter<W>) -> fmt::Result {
+        write!(f, "a fault, which has been said")
+    }
 }
+
+impl std::error::Error for Fault {}
 
 // The longest words of an error.
 const WORDS: usize = 320;
@@ -34,129 +38,114 @@ fn again(error: &Error) -> bool {
     kind == ErrorKind::Interrupted
 }
 
-// How many of the words of an error are its reason: behind that of a call of the system stands the number of the error, in
-// brackets.
-fn reason(error: &Error, words: &[u8]) -> usize
-    ensures { result ≤ length words.now }
-{
+// The reason among the words of an error: behind that of a call of the system stands the number of the error, in brackets.
+fn reason<'a>(error: &Error, words: &'a [u8]) -> &'a [u8] {
     if error.raw_os_error().is_none() {
-        return words.len();
+        return words;
     }
-    let number = words.iter().rposition(|byte| *byte == b'(');
-    match number {
-        Some(at) => at.saturating_sub(1),
-        None => words.len(),
+    match words.iter().rposition(|byte| *byte == b'(') {
+        Some(at) => &words[..at.saturating_sub(1)],
+        None => words,
     }
 }
 
 // Says in a line what could not be done, and why.
-fn say<E: Write>(errors: &mut E, what: &[u8], error: Error) {
+fn say<E: Write>(errors: &mut E, what: &[u8], error: Error) -> Fault {
     let mut words = Cursor::new([0u8; WORDS]);
     let _written = write!(words, "{error}");
     let length = (words.position() as usize).min(WORDS);
     let words = words.into_inner();
-    let words = &words[..length];
-    complain(errors, what);
-    complain(errors, b": ");
-    complain(errors, &words[..reason(&error, words)]);
-    complain(errors, b"\n");
+    for part in [what, b": ", reason(&error, &words[..length]), b"\n"] {
+        complain(errors, part);
+    }
+    Fault
 }
 
 // Says that the call of `read` that has just failed did, and why.
-fn say_unread<E: Write>(errors: &mut E, error: Error) {
-    say(errors, b"standard input cannot be read", error);
+fn unread<E: Write>(errors: &mut E, error: Error) -> Fault {
+    say(errors, b"standard input cannot be read", error)
 }
 
 // Reads what there is, and waits where there is nothing yet. No byte is read where the input has ended, and none into an
-// empty buffer. A loop has to end, so the turns are counted down, from more than any run takes.
-pub fn read<R: Read, E: Write>(input: &mut R, errors: &mut E, buffer: &mut [u8]) -> Input
-    ensures front { Front result buffer.new }
+// empty buffer. A loop has to end, so the turns are counted, up to more than any run takes.
+pub fn read<R: Read, E: Write>(
+    input: &mut R,
+    errors: &mut E,
+    buffer: &mut [u8],
+) -> Result<usize, Fault>
+    ensures front { ReadsAtMost result buffer.new }
     ensures taken { Taken (R.remaining input.old) (R.remaining input.new) result buffer.new }
     ensures end { EndedAtNone (R.remaining input.new) result buffer.new }
 {
-    let mut turns = u64::MAX;
-    while turns > 0 {
+    for _turn in 0..u64::MAX {
         match input.read(buffer) {
-            Ok(count) => return Input::Bytes(count),
-            Err(error) => {
-                if !again(&error) {
-                    say_unread(errors, error);
-                    return Input::Fault;
-                }
-            }
+            Ok(count) => return Ok(count),
+            Err(error) if again(&error) => {}
+            Err(error) => return Err(unread(errors, error)),
         }
-        turns -= 1;
     }
-    say_unread(errors, Error::from(ErrorKind::TimedOut));
-    Input::Fault
+    Err(unread(errors, Error::from(ErrorKind::TimedOut)))
 }
 
 // Reads until the buffer is full or the input ends.
-pub fn read_full<R: Read, E: Write>(input: &mut R, errors: &mut E, buffer: &mut [u8]) -> Input
-    ensures front { Front result buffer.new }
+pub fn read_full<R: Read, E: Write>(
+    input: &mut R,
+    errors: &mut E,
+    buffer: &mut [u8],
+) -> Result<usize, Fault>
+    ensures front { ReadsAtMost result buffer.new }
     ensures taken { Taken (R.remaining input.old) (R.remaining input.new) result buffer.new }
     ensures end { EndedShort (R.remaining input.new) result buffer.new }
 {
     let mut done = 0;
     while done < buffer.len() {
-        let more = read(input, errors, &mut buffer[done..]);
-        let Input::Bytes(count) = more else {
-            return Input::Fault;
-        };
+        let count = read(input, errors, &mut buffer[done..])?;
         if count == 0 {
-            return Input::Bytes(done);
+            return Ok(done);
         }
         done += count;
     }
-    Input::Bytes(done)
+    Ok(done)
 }
 
 // Says that the call of `write` that has just failed did, and why.
-fn say_unwritten<E: Write>(errors: &mut E, error: Error) {
-    say(errors, b"standard output cannot be written", error);
+fn unwritten<E: Write>(errors: &mut E, error: Error) -> Fault {
+    say(errors, b"standard output cannot be written", error)
 }
 
-// Writes the first of the bytes, as many as are taken at once, and answers how many; 0 where they cannot be written, which
-// has been said. The tries are counted down as the turns of `read`.
-fn write_some<W: Write, E: Write>(output: &mut W, errors: &mut E, bytes: &[u8]) -> usize
-    ensures within { result ≤ length bytes.now }
-    ensures written { Appends (W.contents output.old) (W.contents output.new) (take result bytes.now) }
+// Writes the first of the bytes, as many as are taken at once and at least one, and answers how many. The tries are counted
+// as the turns of `read`.
+fn write_some<W: Write, E: Write>(
+    output: &mut W,
+    errors: &mut E,
+    bytes: &[u8],
+) -> Result<usize, Fault>
+    ensures some { IfOk result (λ taken. 0 < taken) }
+    ensures within { WritesAtMost result bytes.now }
+    ensures written { IfOk result (λ taken. Appends (W.contents output.old) (W.contents output.new) (take taken bytes.now)) }
 {
-    let mut tries = u64::MAX;
-    while tries > 0 {
+    for _try in 0..u64::MAX {
         match output.write(bytes) {
             // one that takes nothing is no better the next time
-            Ok(0) => {
-                say_unwritten(errors, Error::from(ErrorKind::WriteZero));
-                return 0;
-            }
-            Ok(count) => return count,
-            Err(error) => {
-                if !again(&error) {
-                    say_unwritten(errors, error);
-                    return 0;
-                }
-            }
+            Ok(0) => return Err(unwritten(errors, Error::from(ErrorKind::WriteZero))),
+            Ok(count) => return Ok(count),
+            Err(error) if again(&error) => {}
+            Err(error) => return Err(unwritten(errors, error)),
         }
-        tries -= 1;
     }
-    say_unwritten(errors, Error::from(ErrorKind::TimedOut));
-    0
+    Err(unwritten(errors, Error::from(ErrorKind::TimedOut)))
 }
 
-// Writes all of the bytes, and answers whether that could be done. No bytes are written without a call.
-pub fn write<W: Write, E: Write>(output: &mut W, errors: &mut E, bytes: &[u8]) -> bool
-    ensures { IsTrue result → Appends (W.contents output.old) (W.contents output.new) bytes.now }
+// Writes all of the bytes. No bytes are written without a call.
+pub fn write<W: Write, E: Write>(output: &mut W, errors: &mut E, bytes: &[u8]) -> Result<(), Fault>
+    ensures { OnOk result (Appends (W.contents output.old) (W.contents output.new) bytes.now) }
 {
-    let mut done = 0;
-    while done < bytes.len() {
-        let taken = write_some(output, errors, &bytes[done..]);
-        if taken == 0 {
-            return false;
-        }
-        done += taken;
+    let mut rest = bytes;
+    while !rest.is_empty() {
+        let taken = write_some(output, errors, rest)?;
+        rest = &rest[taken..];
     }
-    true
+    Ok(())
 }
 
 // Writes the bytes to standard error. Where that cannot be done there is nobody to tell.

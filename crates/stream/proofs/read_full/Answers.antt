@@ -8,6 +8,6 @@ use Rattle.stream.proofs.read_full.Goals as goal
 pub loop-done-preserved : goal.loop-done-preserved
 loop-done-preserved g c =
     let loop = c.loop-done in
-    let got = c.in-Bytes in
-    let joined = front_grows loop.done _ got.count loop.buffer c.read-more.new.buffer loop.invariant.1 got.ensures.front.0 in
-    (search rules, search rules, subst (Consumes _ _) (sym joined) (Consumes-trans _ _ _ _ _ c.loop-done.invariant.2 c.in-Bytes.ensures.taken))
+    let got = c.in_ok-count in
+    let joined = front_grows loop.done _ got.count loop.buffer c.read.new.buffer loop.invariant.1 got.ensures.front.0 in
+    (search rules, search rules, subst (Consumes _ _) (sym joined) (Consumes-trans _ _ _ _ _ c.loop-done.invariant.2 c.in_ok-count.ensures.taken))
