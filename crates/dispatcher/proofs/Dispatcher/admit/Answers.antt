@@ -1,32 +1,17 @@
--- `Dispatcher::admit` meets its contract: its three refusals and its admission are those of the laws of the answers.
-use Rattle.std.proofs.Common.{sym, ◌∙◌}
-use Rattle.dispatcher.proofs.Answers.{admission_not_a_train, admits_no_place, admits_collision, admits_placed}
+-- `Dispatcher::admit` meets its contract: it is refused, or puts the train at the place that it answers.
+use Rattle.std.proofs.Common.{◌<◌, sym, ◌∙◌, arith}
+use Rattle.dispatcher.proofs.Answers.{admission_ok, admission_err}
 use Rattle.dispatcher.proofs.Dispatcher.admit.Goals as goal
 
-pub returns-then-not-within_limits : goal.returns-then-not-within_limits
-returns-then-not-within_limits c =
-    c.refuse.ensures ∙ sym (admission_not_a_train _ _ (sym c.within_limits.ensures.answer ∙ c.if-not-within_limits.true))
+pub offset_bounds-self-place : goal.offset_bounds-self-place
+offset_bounds-self-place c =
+    let inside : c.in-Ok.place < 64 = (admission_ok _ _ _ (sym c.in-Ok.is ∙ c.room-answer.ensures)).0 in omega arith
 
-pub returns-then-empty-ge-PLACES : goal.returns-then-empty-ge-PLACES
-returns-then-empty-ge-PLACES c =
-    let limits = sym c.within_limits.ensures.answer ∙ c.if-not-within_limits.false in
-    c.refuse-then-empty-ge-PLACES.ensures ∙ admits_no_place _ _ limits _ c.lowest-empty.ensures c.if-empty-ge-PLACES.true
+pub bounds-self-place : goal.bounds-self-place
+bounds-self-place c = (admission_ok _ _ _ (sym c.in-Ok.is ∙ c.room-answer.ensures)).0
 
-pub returns-then-met-lt-PLACES : goal.returns-then-met-lt-PLACES
-returns-then-met-lt-PLACES c =
-    let limits = sym c.within_limits.ensures.answer ∙ c.if-not-within_limits.false in
-    c.refuse-then-met-lt-PLACES.ensures
-    ∙ admits_collision _ _ limits _ c.lowest-empty.ensures c.if-empty-ge-PLACES.false _ _
-    c.wrapping_add_u32-count.ensures.value
-    c.lowest-met.ensures
-    c.if-met-lt-PLACES.true
+pub returns-in-Ok : goal.returns-in-Ok
+returns-in-Ok c = rw c.count_after.ensures ((admission_ok _ _ _ (sym c.in-Ok.is ∙ c.room-answer.ensures)).1)
 
-pub returns : goal.returns
-returns c =
-    let limits = sym c.within_limits.ensures.answer ∙ c.if-not-within_limits.false in
-    admits_placed _ _ limits _ c.lowest-empty.ensures c.if-empty-ge-PLACES.false _ _
-    c.wrapping_add_u32-count.ensures.value
-    c.lowest-met.ensures
-    c.if-met-lt-PLACES.false
-    _
-    c.count_after.ensures
+pub returns-in_default : goal.returns-in_default
+returns-in_default c = rw c.in_default.is (admission_err _ _ _ (sym c.in_default.is ∙ c.room-answer.ensures))

@@ -5,11 +5,11 @@ use Rattle.dispatcher.proofs.Dispatcher.withdraw.Goals as goal
 
 pub returns-then-place-ge-PLACES : goal.returns-then-place-ge-PLACES
 returns-then-place-ge-PLACES c =
-    sym (withdrawal_outside _ _ (search rules) c.if-place-ge-PLACES.true)
+    c.refuse.ensures ∙ sym (withdrawal_outside _ _ (search rules) c.if-place-ge-PLACES.true)
 
 pub returns-then-is : goal.returns-then-is
-returns-then-is c = sym (withdrawal_none _ _ (sym c.is.ensures ∙ c.if-is.true))
+returns-then-is c = c.refuse-then-is.ensures ∙ sym (withdrawal_none _ _ (sym c.is.ensures ∙ c.if-is.true))
 
 pub returns : goal.returns
 returns c =
-    rw c.ended-run.ensures (sym (withdrawal_done _ _ (sym c.is.ensures ∙ c.if-is.false)))
+    rw c.ended-self.ensures (sym (withdrawal_done _ _ (sym c.is.ensures ∙ c.if-is.false)))

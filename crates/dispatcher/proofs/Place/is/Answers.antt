@@ -3,8 +3,8 @@ use Rattle.std.proofs.Common.{◌∙◌}
 use Rattle.dispatcher.proofs.Answers.{sought_in_empty, sought_in_held}
 use Rattle.dispatcher.proofs.Place.is.Goals as goal
 
-pub returns-in-Empty : goal.returns-in-Empty
-returns-in-Empty c = c.is_empty.ensures ∙ sought_in_empty _ _ c.in-Empty.is
+pub returns-in-None : goal.returns-in-None
+returns-in-None c = c.is_empty.ensures ∙ sought_in_empty _ _ c.in-None.is
 
-pub returns-in-Holds : goal.returns-in-Holds
-returns-in-Holds c = c.is.ensures ∙ sought_in_held _ _ _ c.in-Holds.is
+pub returns-in-Some : goal.returns-in-Some
+returns-in-Some c = c.is.ensures ∙ sought_in_held _ _ _ c.in-Some.is
