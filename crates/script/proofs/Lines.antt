@@ -1,16 +1,18 @@
 -- A line and the call that it says: what is read of it, it says, and what it says is read of it.
 -- Core: spelt_said and spells_spelt, of a text; line_said and says_read, of a line.
 -- Assumes nothing.
-use Prim.Native.Nat.{ℕ, suc, ◌+◌, ◌-◌, ◌<◌, ◌≤◌}
+use Prim.Native.Nat.{ℕ, ◌+◌, ◌-◌, ◌<◌, ◌≤◌}
 use mathlib.Core.Path.{◌≡◌, refl, sym, ap, subst, ◌∙◌}
 use mathlib.Core.Bool.{Bool, true, false, cond}
 use mathlib.Core.Logic.{⊎_elim}
 use mathlib.Core.List.{List, [], ◌∷◌, ◌++◌, append-nil}
 use native.Mathlib.Nat.{eq-zero-or-pos}
 use native.Mathlib.Omega.{arith}
+use Rattle.std.specs.Prelude.{Option, None, Some, IfSome}
+use Rattle.std.specs.Option.{option_map}
 use lib.Dec.{ltb, eqb}
 use lib.ListN.{length, get_or, take, drop, length-append, take-append-drop}
-use lib.Seq.{length-take-le, drop-length, drop-cons, take_all, take-append_seam, get_or-append_seam, get_or-append-add}
+use lib.Seq.{length-take-le, drop-length, take_all, take-append_seam, get_or-append-add}
 use borrow.Author.Tests.{ltb-false, eqb-true, lt-ltb, le-ltb, ne_eqb}
 use Rattle.lent.specs.Words.{begins_with}
 use Rattle.lent.proofs.Words.{begins_is}
@@ -18,74 +20,51 @@ use Rattle.decimal.specs.Digits.{Digit, Number}
 use Rattle.decimal.specs.Answer.{Found, nothing, found}
 use Rattle.decimal.proofs.Notation.{digits_at}
 use Rattle.script.specs.declared.Call.{Call}
-use Rattle.script.specs.declared.Call.TheVariants.{Bad, Fresh, Admit, Withdraw, Step}
-use Rattle.script.specs.declared.Single.{Single}
-use Rattle.script.specs.declared.Single.TheVariants as singles
+use Rattle.script.specs.declared.Call.TheVariants.{Fresh, Admit, Withdraw, Step}
 use Rattle.script.specs.Says.{space, return, fresh_word, admit_word, withdraw_word, step_word}
 use Rattle.script.specs.Says.{Spells, fresh, admit, withdraw, step, longest, Ending, plain, returned, Says, says}
-use Rattle.script.specs.Answer.{spaced_in, single_in, fresh_of, withdraw_of, step_of, duration_of}
-use Rattle.script.specs.Answer.{period_of, delay_of, spelt, text_length, call_in}
+use Rattle.script.specs.Answer.{spaced_in, single_in, period_of, delay_of, spelt, text_length, call_in}
+use Rattle.script.proofs.Ways.{drop_last, text_returned, length_within}
 use Rattle.script.proofs.Numbers.{AsSpaced, AsSingle, spaced_found, spaced_read, space_stops, single_found, single_read}
 
 -- ---- A call or none
 
--- what is so of every call but `Bad`
-abbrev pub BadOr : (Call → Type 0) → Call → Type 0
-BadOr P Bad = Unit {0}
-BadOr P (Fresh c) = P (Fresh c)
-BadOr P (Admit delay period duration) = P (Admit delay period duration)
-BadOr P (Withdraw place) = P (Withdraw place)
-BadOr P (Step c) = P (Step c)
+if_some : (P Q : Call → Type 0) → ((c : Call) → P c → Q c) → (c : Option Call) → IfSome c P → IfSome c Q
+if_some P Q f None p = tt
+if_some P Q f (Some c) p = f c p
 
-bad_or : (P Q : Call → Type 0) → ((c : Call) → P c → Q c) → (c : Call) → BadOr P c → BadOr Q c
-bad_or P Q f Bad p = tt
-bad_or P Q f (Fresh c) p = f (Fresh c) p
-bad_or P Q f (Admit delay period duration) p = f (Admit delay period duration) p
-bad_or P Q f (Withdraw place) p = f (Withdraw place) p
-bad_or P Q f (Step c) p = f (Step c) p
-
-pub not_bad : (P : Call → Type 0) (c : Call) → (c ≡ Bad → ⊥) → BadOr P c → P c
-not_bad P Bad n p = absurd (n refl)
-not_bad P (Fresh c) n p = p
-not_bad P (Admit delay period duration) n p = p
-not_bad P (Withdraw place) n p = p
-not_bad P (Step c) n p = p
-
-pub none_bad : (P : Call → Type 0) → ((c : Call) → P c → ⊥) → (c : Call) → BadOr P c → c ≡ Bad
-none_bad P n Bad p = refl
-none_bad P n (Fresh c) p = absurd (n (Fresh c) p)
-none_bad P n (Admit delay period duration) p = absurd (n (Admit delay period duration) p)
-none_bad P n (Withdraw place) p = absurd (n (Withdraw place) p)
-none_bad P n (Step c) p = absurd (n (Step c) p)
+pub none_said : (P : Call → Type 0) → ((c : Call) → P c → ⊥) → (c : Option Call) → IfSome c P → c ≡ None
+none_said P n None p = refl
+none_said P n (Some c) p = absurd (n c p)
 
 -- ---- What is read of a text, it says
 
 module _ (text : List ℕ) where
-  abbrev Said : Call → Type 0
-  Said = BadOr (Spells text)
+  abbrev Said : Option Call → Type 0
+  Said call = IfSome call (Spells text)
 
-  fresh_said : text ≡ fresh_word ++ drop 5 text → (s : Single) → AsSingle (drop 5 text) s → Said (fresh_of s)
-  fresh_said e singles.Missing r = tt
-  fresh_said e (singles.Found n) r =
+  fresh_said : text ≡ fresh_word ++ drop 5 text → (s : Option ℕ) → AsSingle (drop 5 text) s → Said (option_map Fresh s)
+  fresh_said e None r = tt
+  fresh_said e (Some n) r =
       subst (λ (t : List ℕ). Spells t (Fresh n)) (sym (e ∙ ap (λ (l : List ℕ). fresh_word ++ l) r.whole)) (fresh r.number)
 
-  withdraw_said : text ≡ withdraw_word ++ drop 8 text → (s : Single) → AsSingle (drop 8 text) s → Said (withdraw_of s)
-  withdraw_said e singles.Missing r = tt
-  withdraw_said e (singles.Found n) r =
+  withdraw_said : text ≡ withdraw_word ++ drop 8 text → (s : Option ℕ) → AsSingle (drop 8 text) s → Said (option_map Withdraw s)
+  withdraw_said e None r = tt
+  withdraw_said e (Some n) r =
       subst (λ (t : List ℕ). Spells t (Withdraw n)) (sym (e ∙ ap (λ (l : List ℕ). withdraw_word ++ l) r.whole))
       (withdraw r.number)
 
-  step_said : text ≡ step_word ++ drop 4 text → (s : Single) → AsSingle (drop 4 text) s → Said (step_of s)
-  step_said e singles.Missing r = tt
-  step_said e (singles.Found n) r =
+  step_said : text ≡ step_word ++ drop 4 text → (s : Option ℕ) → AsSingle (drop 4 text) s → Said (option_map Step s)
+  step_said e None r = tt
+  step_said e (Some n) r =
       subst (λ (t : List ℕ). Spells t (Step n)) (sym (e ∙ ap (λ (l : List ℕ). step_word ++ l) r.whole)) (step r.number)
 
   duration_said :
       (delay period : ℕ) (ds es rest : List ℕ) → Number delay ds → Number period es →
       text ≡ admit_word ++ (space ∷ ds ++ (space ∷ es ++ rest)) →
-      (s : Single) → AsSingle rest s → Said (duration_of delay period s)
-  duration_said delay period ds es rest j k e singles.Missing r = tt
-  duration_said delay period ds es rest j k e (singles.Found n) r =
+      (s : Option ℕ) → AsSingle rest s → Said (option_map (Admit delay period) s)
+  duration_said delay period ds es rest j k e None r = tt
+  duration_said delay period ds es rest j k e (Some n) r =
       subst (λ (t : List ℕ). Spells t (Admit delay period n))
       (sym (e ∙ ap (λ (l : List ℕ). admit_word ++ (space ∷ ds ++ (space ∷ es ++ l))) r.whole))
       (admit j k r.number)
@@ -115,11 +94,11 @@ module _ (text : List ℕ) where
           (s : Bool) → begins_with step_word text ≡ s → (a : Bool) → begins_with admit_word text ≡ a →
           (w : Bool) → begins_with withdraw_word text ≡ w → (f : Bool) → begins_with fresh_word text ≡ f →
           Said
-          (cond s (step_of (single_in (drop 4 text)))
+          (cond s (option_map Step (single_in (drop 4 text)))
           (cond a (delay_of (spaced_in (drop 5 text)))
-          (cond w (withdraw_of (single_in (drop 8 text)))
-          (cond f (fresh_of (single_in (drop 5 text)))
-          Bad))))
+          (cond w (option_map Withdraw (single_in (drop 8 text)))
+          (cond f (option_map Fresh (single_in (drop 5 text)))
+          None))))
       go true e a h w i f j = step_said (begins_is step_word text e) (single_in (drop 4 text)) (single_found (drop 4 text))
       go false e true h w i f j = delay_said (begins_is admit_word text h) (spaced_in (drop 5 text)) (spaced_found (drop 5 text))
       go false e false h true i f j = withdraw_said (begins_is withdraw_word text i) (single_in (drop 8 text)) (single_found (drop 8 text))
@@ -128,15 +107,15 @@ module _ (text : List ℕ) where
 
 -- ---- What a text says is read of it
 
-pub spells_spelt : {text : List ℕ} {call : Call} → Spells text call → spelt text ≡ call
+pub spells_spelt : {text : List ℕ} {call : Call} → Spells text call → spelt text ≡ Some call
 unfolding spelt begins_with
-spells_spelt (fresh {c} {ds} k) = ap fresh_of (single_read c ds k)
-spells_spelt (withdraw {place} {ds} k) = ap withdraw_of (single_read place ds k)
-spells_spelt (step {c} {ds} k) = ap step_of (single_read c ds k)
+spells_spelt (fresh {c} {ds} k) = ap (λ (n : Option ℕ). option_map Fresh n) (single_read c ds k)
+spells_spelt (withdraw {place} {ds} k) = ap (λ (n : Option ℕ). option_map Withdraw n) (single_read place ds k)
+spells_spelt (step {c} {ds} k) = ap (λ (n : Option ℕ). option_map Step n) (single_read c ds k)
 spells_spelt (admit {delay} {period} {duration} {ds} {es} {fs} j k l) =
     ap delay_of (spaced_read delay ds (space ∷ es ++ space ∷ fs) j (space_stops (es ++ space ∷ fs)))
     ∙ ap (period_of delay) (spaced_read period es (space ∷ fs) k (space_stops fs))
-    ∙ ap (duration_of delay period) (single_read duration fs l)
+    ∙ ap (λ (n : Option ℕ). option_map (Admit delay period) n) (single_read duration fs l)
 
 -- ---- The end of a line
 
@@ -165,21 +144,6 @@ spells_ends (admit {delay} {period} {duration} {ds} {es} {fs} j k l) =
     (ends_behind ds _ (ends_behind (space ∷ []) _ (ends_behind es _ (ends_behind (space ∷ []) fs (number_ends duration fs l)))))
 
 -- what stands behind the text of a line may stand there
-length_within : (line : List ℕ) → text_length line ≤ length line
-unfolding text_length
-length_within line = go (eqb (get_or line (length line - 1) 0) return)
-  where
-    go : (b : Bool) → cond b (length line - 1) (length line) ≤ length line
-    go true = omega arith
-    go false = omega arith
-
-drop_last : (l : List ℕ) → 0 < length l → drop (length l - 1) l ≡ get_or l (length l - 1) 0 ∷ []
-drop_last l h =
-    let index : suc (length l - 1) ≡ length l = omega arith in
-    drop-cons l (length l - 1) 0 (omega arith)
-    ∙ ap (λ (k : ℕ). get_or l (length l - 1) 0 ∷ drop k l) index
-    ∙ ap (λ (r : List ℕ). get_or l (length l - 1) 0 ∷ r) (drop-length l)
-
 ending : (line : List ℕ) → Ending (drop (text_length line) line)
 unfolding text_length
 ending line = go line (eqb (get_or line (length line - 1) 0) return) refl
@@ -197,7 +161,7 @@ ending line = go line (eqb (get_or line (length line - 1) 0) return) refl
 
 -- ---- Lines
 
-pub line_said : (line : List ℕ) → BadOr (Says line) (call_in line)
+pub line_said : (line : List ℕ) → IfSome (call_in line) (Says line)
 unfolding call_in
 line_said line = go (ltb longest (text_length line)) refl
   where
@@ -209,9 +173,9 @@ line_said line = go (ltb longest (text_length line)) refl
         let short : length text ≤ longest = rw (length-take-le (text_length line) line (length_within line)) h in
         subst (λ (l : List ℕ). Says l c) (take-append-drop (text_length line) line) (says s short (ending line))
 
-    go : (b : Bool) → ltb longest (text_length line) ≡ b → BadOr (Says line) (cond b Bad (spelt text))
+    go : (b : Bool) → ltb longest (text_length line) ≡ b → IfSome (cond b None (spelt text)) (Says line)
     go true e = tt
-    go false e = bad_or (Spells text) (Says line) (λ c s. lined c (ltb-false longest (text_length line) e) s) (spelt text) (spelt_said text)
+    go false e = if_some (Spells text) (Says line) (λ c s. lined c (ltb-false longest (text_length line) e) s) (spelt text) (spelt_said text)
 
 -- the text of a line that says a call is what stands in front of its end
 text_is : (text end : List ℕ) → EndsInDigit text → Ending end → text_length (text ++ end) ≡ length text
@@ -219,37 +183,25 @@ unfolding text_length
 text_is text [] d plain =
     let last : get_or text (length text - 1) 0 ≡ return → ⊥ = λ e. omega (arith, d.last.from) in
     rw (append-nil text, ne_eqb (get_or text (length text - 1) 0) return last)
-text_is text (r ∷ []) d returned =
-    let long : length (text ++ return ∷ []) - 1 ≡ length text = omega (arith, length-append text (return ∷ [])) in
-    rw (long, get_or-append_seam text return [] 0)
+text_is text (r ∷ []) d returned = text_returned text
 text_is text (r ∷ (_ ∷ _)) d none = elim none [ ]
 
-pub says_read : {line : List ℕ} {call : Call} → Says line call → call_in line ≡ call
+pub says_read : {line : List ℕ} {call : Call} → Says line call → call_in line ≡ Some call
 unfolding call_in
 says_read (says {text} {end} {call} s h e) =
     rw (text_is text end (spells_ends s) e, le-ltb longest (length text) h, take-append_seam text end) (spells_spelt s)
 
--- `Bad` is said by no text
-spells_call : {text : List ℕ} {call : Call} → Spells text call → call ≡ Bad → ⊥
-spells_call (fresh k) e = let z : ◌≡◌ {A = ℕ} 0 1 = cc in omega arith
-spells_call (admit j k l) e = let z : ◌≡◌ {A = ℕ} 0 1 = cc in omega arith
-spells_call (withdraw k) e = let z : ◌≡◌ {A = ℕ} 0 1 = cc in omega arith
-spells_call (step k) e = let z : ◌≡◌ {A = ℕ} 0 1 = cc in omega arith
-
-pub says_call : {line : List ℕ} {call : Call} → Says line call → call ≡ Bad → ⊥
-says_call (says s h e) = spells_call s
-
 -- ---- Long lines
 
 -- a line that is longer than a text and a CR says nothing
-long_bad : (line : List ℕ) → longest + 1 < length line → call_in line ≡ Bad
+long_none : (line : List ℕ) → longest + 1 < length line → call_in line ≡ None
 unfolding call_in text_length
-long_bad line h = go (eqb (get_or line (length line - 1) 0) return)
+long_none line h = go (eqb (get_or line (length line - 1) 0) return)
   where
     go :
         (b : Bool) →
-        cond (ltb longest (cond b (length line - 1) (length line))) Bad (spelt (take (cond b (length line - 1) (length line)) line))
-        ≡ Bad
+        cond (ltb longest (cond b (length line - 1) (length line))) None (spelt (take (cond b (length line - 1) (length line)) line))
+        ≡ None
     go true = rw (lt-ltb longest (length line - 1) (omega arith))
     go false = rw (lt-ltb longest (length line) (omega arith))
 
@@ -259,5 +211,5 @@ front_read line =
     (λ (z : length line - (longest + 2) ≡ 0). ap call_in (take_all (longest + 2) line (omega arith)))
     (λ (p : 0 < length line - (longest + 2)).
     let cut : length (take (longest + 2) line) ≡ longest + 2 = length-take-le (longest + 2) line (omega arith) in
-    long_bad (take (longest + 2) line) (omega arith) ∙ sym (long_bad line (omega arith)))
+    long_none (take (longest + 2) line) (omega arith) ∙ sym (long_none line (omega arith)))
     (eq-zero-or-pos (length line - (longest + 2)))

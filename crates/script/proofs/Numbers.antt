@@ -7,13 +7,12 @@ use mathlib.Core.Path.{◌≡◌, refl, sym, ap, ◌∙◌}
 use mathlib.Core.Bool.{Bool, true, false, cond}
 use mathlib.Core.List.{List, [], ◌∷◌, ◌++◌, append-nil}
 use native.Mathlib.Omega.{arith}
+use Rattle.std.specs.Prelude.{Option, None, Some}
 use lib.Dec.{eqb}
 use borrow.Author.Tests.{eqb-true}
 use Rattle.decimal.specs.Digits.{Number, Stops}
 use Rattle.decimal.specs.Answer.{Found, nothing, found, number_in}
 use Rattle.decimal.proofs.Numbers.{AsNumber, number_found, number_read, nothing_stops}
-use Rattle.script.specs.declared.Single.{Single}
-use Rattle.script.specs.declared.Single.TheVariants as singles
 use Rattle.script.specs.Says.{space}
 use Rattle.script.specs.Answer.{spaced_in, single_of, single_in}
 
@@ -57,9 +56,9 @@ pub record Alone (l : List ℕ) (n : ℕ) : Type 0 where
   pub number : Number n ds
   pub whole : l ≡ space ∷ ds
 
-abbrev pub AsSingle : List ℕ → Single → Type 0
-AsSingle l singles.Missing = Unit {0}
-AsSingle l (singles.Found n) = Alone l n
+abbrev pub AsSingle : List ℕ → Option ℕ → Type 0
+AsSingle l None = Unit {0}
+AsSingle l (Some n) = Alone l n
 
 alone : (l : List ℕ) (f : Found ℕ) → AsSpaced l f → AsSingle l (single_of f)
 unfolding single_of
@@ -71,7 +70,7 @@ alone l (found n (b ∷ bs)) r = tt
 pub single_found : (l : List ℕ) → AsSingle l (single_in l)
 single_found l = alone l (spaced_in l) (spaced_found l)
 
-pub single_read : (n : ℕ) (ds : List ℕ) → Number n ds → single_in (space ∷ ds) ≡ singles.Found n
+pub single_read : (n : ℕ) (ds : List ℕ) → Number n ds → single_in (space ∷ ds) ≡ Some n
 unfolding single_of
 single_read n ds k =
     ap (λ (es : List ℕ). single_in (space ∷ es)) (sym (append-nil ds)) ∙ ap single_of (spaced_read n ds [] k nothing_stops)

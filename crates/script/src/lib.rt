@@ -1,21 +1,17 @@
 // Reads a line that says a call of a dispatcher: `fresh C`, `admit DELAY PERIOD DURATION`, `withdraw PLACE` or `step C`.
-// `read` has no `requires`: of a line that says no call it answers `Bad`.
+// `read` has no `requires`: of a line that says no call it answers `None`.
 #![tactic(auto)]
 
-ghost use Rattle.std.specs.Prelude.{◌≡◌, ◌≤◌, length, drop};
-ghost use Rattle.decimal.specs.Inside.{found_at};
+ghost use Rattle.std.specs.Prelude.{◌≡◌, ◌≤◌, length, drop, MatchOption};
+ghost use Rattle.decimal.specs.Answer.{nothing, found};
 ghost use Rattle.script.specs.Says.{longest};
-ghost use Rattle.script.specs.Answer.{spaced_in, single_in, fresh_of, delay_of, withdraw_of, step_of};
-ghost use Rattle.script.specs.Answer.{spelt, text_length, call_in};
-
-use decimal::Number;
+ghost use Rattle.script.specs.Answer.{spaced_in, single_in, delay_of, spelt, call_in};
 
 // What a line says.
 #[derive(Clone, Copy)]
 pub enum Call {
-    // No call.
-    Bad,
     Fresh(u32),
+    // The delay, the period and the duration.
     Admit(u32, u32, u32),
     Withdraw(u32),
     Step(u32),
@@ -26,127 +22,57 @@ impl Call {
     pub const LONGEST: usize = 80;
 }
 
-// One number and nothing behind it.
-#[derive(Clone, Copy)]
-enum Single {
-    Missing,
-    Found(u32),
+// The number that a space and digits say at the front of a text, and the text behind it.
+fn spaced(text: &[u8]) -> Option<(u32, &[u8])>
+    ensures { MatchOption result (spaced_in text.now ≡ nothing) (λ said. spaced_in text.now ≡ found said.0 said.1.now) }
+{
+    let digits = text.strip_prefix(b" ")?;
+    let number = decimal::read(digits, 0)?;
+    Some((number.value, &digits[number.end..]))
 }
 
-// The number that a space and its digits say there.
-fn spaced_at(text: &[u8], at: usize) -> Number
-    ensures { found_at text.now result ≡ spaced_in (drop at text.now) }
+// The number that a text says, if nothing follows it.
+fn single(text: &[u8]) -> Option<u32>
+    ensures { result ≡ single_in text.now }
 {
-    if at >= text.len() {
-        return Number::Missing;
-    }
-    if text[at] != b' ' {
-        return Number::Missing;
-    }
-    decimal::read(text, at + 1)
-}
-
-// The number that is said there, if nothing follows it.
-fn single_at(text: &[u8], at: usize) -> Single
-    ensures { result ≡ single_in (drop at text.now) }
-{
-    let Number::Found(value, end) = spaced_at(text, at) else {
-        return Single::Missing;
-    };
-    if end < text.len() {
-        return Single::Missing;
-    }
-    Single::Found(value)
-}
-
-// The call `fresh` with the number behind its word.
-fn fresh(number: Single) -> Call
-    ensures { result ≡ fresh_of number }
-{
-    match number {
-        Single::Missing => Call::Bad,
-        Single::Found(count) => Call::Fresh(count),
-    }
+    let (value, rest) = spaced(text)?;
+    if rest.is_empty() { Some(value) } else { None }
 }
 
 // The call `admit` with the three numbers behind its word.
-fn admit(text: &[u8]) -> Call
-    ensures { result ≡ delay_of (spaced_in (drop 5 text.now)) }
+fn admit(text: &[u8]) -> Option<Call>
+    ensures { result ≡ delay_of (spaced_in text.now) }
 {
-    let Number::Found(delay, second) = spaced_at(text, 5) else {
-        return Call::Bad;
-    };
-    let Number::Found(period, third) = spaced_at(text, second) else {
-        return Call::Bad;
-    };
-    let Single::Found(duration) = single_at(text, third) else {
-        return Call::Bad;
-    };
-    Call::Admit(delay, period, duration)
-}
-
-// The call `withdraw` with the number behind its word.
-fn withdraw(number: Single) -> Call
-    ensures { result ≡ withdraw_of number }
-{
-    match number {
-        Single::Missing => Call::Bad,
-        Single::Found(place) => Call::Withdraw(place),
-    }
-}
-
-// The call `step` with the number behind its word.
-fn step(number: Single) -> Call
-    ensures { result ≡ step_of number }
-{
-    match number {
-        Single::Missing => Call::Bad,
-        Single::Found(count) => Call::Step(count),
-    }
+    let (delay, rest) = spaced(text)?;
+    let (period, last) = spaced(rest)?;
+    let duration = single(last)?;
+    Some(Call::Admit(delay, period, duration))
 }
 
 // The call that a text says by its first word.
-fn call_in(text: &[u8]) -> Call
+fn call_in(text: &[u8]) -> Option<Call>
     ensures { result ≡ spelt text.now }
 {
-    if lent::stands(b"step", text, 0) {
-        return step(single_at(text, 4));
+    if let Some(numbers) = text.strip_prefix(b"step") {
+        return single(numbers).map(Call::Step);
     }
-    if lent::stands(b"admit", text, 0) {
-        return admit(text);
+    if let Some(numbers) = text.strip_prefix(b"admit") {
+        return admit(numbers);
     }
-    if lent::stands(b"withdraw", text, 0) {
-        return withdraw(single_at(text, 8));
+    if let Some(numbers) = text.strip_prefix(b"withdraw") {
+        return single(numbers).map(Call::Withdraw);
     }
-    if lent::stands(b"fresh", text, 0) {
-        return fresh(single_at(text, 5));
-    }
-    Call::Bad
-}
-
-// How many bytes a line has without the CR at its end, if there is one.
-fn text_length(line: &[u8]) -> usize
-    ensures { (result ≡ text_length line.now) × (result ≤ length line.now) }
-{
-    let length = line.len();
-    if length == 0 {
-        return 0;
-    }
-    let last = length - 1;
-    if line[last] == b'\r' {
-        return last;
-    }
-    length
+    single(text.strip_prefix(b"fresh")?).map(Call::Fresh)
 }
 
 // What a line says, which is handed over without its newline. A CR at its end is dropped.
-pub fn read(line: &[u8]) -> Call
+pub fn read(line: &[u8]) -> Option<Call>
     ensures answer { result ≡ call_in line.now }
     ensures constants { Call.LONGEST ≡ longest }
 {
-    let length = text_length(line);
-    if length > Call::LONGEST {
-        return Call::Bad;
+    let text = line.strip_suffix(b"\r").unwrap_or(line);
+    if text.len() > Call::LONGEST {
+        return None;
     }
-    call_in(&line[..length])
+    call_in(text)
 }
