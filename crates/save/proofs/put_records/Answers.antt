@@ -1,42 +1,34 @@
--- `put_records` meets its contract. The loop's invariant: the trains up to this position are written, and nothing else. The
--- measure is the trains that are left.
+-- `put_records` meets its contract. The loop's invariant: the trains up to this position are written, and nothing else.
 use mathlib.Core.Path.{refl, sym, ap, ◌∙◌}
+use mathlib.Core.List.{map}
 use native.Mathlib.Omega.{arith}
-use Rattle.lent.proofs.Records.{writing_begins, writing_on, writing_ends}
-use Rattle.table.specs.Row.{entries, no_entry, lowest_entry}
+use lib.ListN.{length-map}
+use Rattle.lent.specs.Lent.{over}
+use Rattle.lent.proofs.Records.{flat_length, writing_begins, writing_on, writing_ends}
+use Rattle.table.specs.Row.{record_length, entries, no_entry, lowest_entry}
 use Rattle.table.proofs.Entries.{entries_length}
 use Rattle.table.proofs.Rows.{lowest_in, lowest_out, lowest_at}
+use Rattle.stored.specs.Layout.{record_of}
+use Rattle.save.proofs.Stores.{over_mid, whole_part}
 use Rattle.save.proofs.put_records.Goals as goal
 
 pub loop-position-init : goal.loop-position-init
-loop-position-init c = (writing_begins _ _ _ _ _ _, refl)
+loop-position-init c = writing_begins _ _ _ _ 0 _
 
-pub overflow_mul-position : goal.overflow_mul-position
-overflow_mul-position c = omega arith
-
-pub overflow_add-position : goal.overflow_add-position
-overflow_add-position c = omega arith
-
-pub put_record-requires : goal.put_record-requires
-put_record-requires c =
-    omega (arith, entries_length c.args.row.now, c.requires)
-
-pub loop-position-smaller : goal.loop-position-smaller
-loop-position-smaller c = omega arith
+pub slice_bounds-record-end : goal.slice_bounds-record-end
+slice_bounds-record-end c =
+    omega (arith, entries_length c.args.row.now)
 
 pub loop-position-preserved : goal.loop-position-preserved
 loop-position-preserved c =
-    let inv = c.loop-position.invariant in
-    let given = c.args.row.now in (
-      writing_on _ _ _ _ _ _ _ _ _ _ _ no_entry (lowest_in given _ c.loop-position-test.true) (omega arith) refl
-          (ap lowest_entry c.at-entry.ensures ∙ sym (lowest_at (entries given) c.loop-position.position)) inv.0 c.put_record.ensures,
-      omega (arith, inv.1, c.put_record.auto.out),
-    )
-
-pub shape_of-out : goal.shape_of-out
-shape_of-out c = omega arith
+    let given = c.args.row.now in
+    writing_on _ _ _ _ 0 _ _ _ _ _ _ no_entry (lowest_in given _ c.loop-position-test.true) (omega arith) (omega arith)
+    (ap lowest_entry c.at.ensures ∙ sym (lowest_at (entries given) c.loop-position.position)) c.loop-position.invariant
+    (over_mid _ _ _ _ (omega arith) ∙ ap (over _ _) c.put_record.ensures)
 
 pub returns : goal.returns
 returns c =
     let given = c.args.row.now in
-    writing_ends _ _ _ _ _ _ _ _ (lowest_out given _ c.loop-position-test.false) c.loop-position.invariant.0
+    let es = map lowest_entry (entries given) in
+    whole_part _ c.args.out.now _ (omega (arith, flat_length record_of record_length (λ e. refl) es, length-map (entries given) lowest_entry))
+    (writing_ends _ _ _ _ 0 _ _ _ (lowest_out given _ c.loop-position-test.false) c.loop-position.invariant)

@@ -1,6 +1,7 @@
 -- `save` meets its contract: the checks, the room, and then the head and the records.
-use mathlib.Core.Path.{refl}
+use mathlib.Core.Path.{refl, ap}
 use native.Mathlib.Omega.{arith}
+use lib.ListN.{length, length-take, length-drop, length-append}
 use Rattle.table.proofs.Entries.{entries_length}
 use Rattle.stored.specs.Answer.{saved_in}
 use Rattle.stored.proofs.Saving.{save_checked, save_few, save_short, save_answers}
@@ -30,12 +31,12 @@ overflow_cast-count c = omega (arith, save_few _ 0 _ c.check-checked.ensures c.i
 
 pub put_records-requires : goal.put_records-requires
 put_records-requires c =
-    omega (arith, entries_length c.args.row.now, c.if-out-end.false, c.put_head.auto.out)
+    simp (length-take, length-drop, length-append) (omega (arith, ap length c.put_head.ensures, entries_length c.args.row.now))
 
 pub returns : goal.returns
 returns c =
     record {
       answer = save_answers _ _ _ c.check-checked.ensures c.in-Passed.is c.if-out-end.false;
-      bytes = save_writes _ _ _ _ (omega arith) c.put_head.ensures c.put_records.ensures;
+      bytes = save_writes _ _ _ _ c.put_head.ensures c.put_records.ensures;
       constants = refl;
     }
