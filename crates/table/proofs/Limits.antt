@@ -10,12 +10,10 @@ use native.Mathlib.Omega.{arith}
 use lib.ListN.{length, get_or, take, length-take}
 use lib.Seq.{get_or-take}
 use borrow.Author.Tests.{lt-ltb, ltb-true}
+use Rattle.std.specs.Prelude.{Option, None, Some}
 use Rattle.refusal.specs.declared.Refusal.TheVariants.{TickTooFine, TimeTooLong}
 use Rattle.refusal.specs.Order.{in_turn}
 use Rattle.fraction.specs.declared.Fraction.{Fraction}
-use Rattle.fraction.specs.declared.Ticks.TheVariants.{Whole}
-use Rattle.fraction.specs.declared.Multiple.{Multiple}
-use Rattle.fraction.specs.declared.Multiple.TheVariants.{Above, Within}
 use Rattle.fraction.specs.Value.{AllDivide}
 use Rattle.fraction.specs.Answer.{whole_ticks, running}
 use Rattle.fraction.proofs.Lowest.{lowest_terms}
@@ -62,9 +60,9 @@ divides_at (e ∷ es) m (suc k) all h = divides_at es m k (divide_front (denomin
 
 -- Every time of a train is a whole number of ticks.
 pub record WholeTimes (t : Fraction) (e : Entry) : Type 0 where
-  pub phase : (k : ℕ) × (whole_ticks e.phase t ≡ Whole k)
-  pub period : (k : ℕ) × (whole_ticks e.period t ≡ Whole k)
-  pub duration : (k : ℕ) × (whole_ticks e.duration t ≡ Whole k)
+  pub phase : (k : ℕ) × (whole_ticks e.phase t ≡ Some k)
+  pub period : (k : ℕ) × (whole_ticks e.period t ≡ Some k)
+  pub duration : (k : ℕ) × (whole_ticks e.duration t ≡ Some k)
 
 pub ticks_at : (es : List Entry) (k : ℕ) → AllSound es → k < length es → WholeTimes (tick es) (get_or es k no_entry)
 ticks_at es k sound h =
@@ -78,9 +76,9 @@ ticks_at es k sound h =
 
 -- ---- Refusal 5
 
-above_is : (m : Multiple) → (is_above m ≡ true) ↔ (m ≡ Above)
-above_is Above = ((λ t. refl), (λ e. refl))
-above_is (Within n) =
+above_is : (m : Option ℕ) → (is_above m ≡ true) ↔ (m ≡ None)
+above_is None = ((λ t. refl), (λ e. refl))
+above_is (Some n) =
     ((λ t. let z : ◌≡◌ {A = ℕ} 0 1 = cc in absurd (omega arith)), (λ e. let z : ◌≡◌ {A = ℕ} 0 1 = cc in absurd (omega arith)))
 
 -- the test looks at the running multiple, which is L where no denominator is 0
@@ -97,7 +95,7 @@ multiple_follows es sound =
 -- ---- Refusal 6
 
 many_is :
-    (time t : Fraction) → 0 < time.denominator → 0 < t.numerator → ((k : ℕ) × (whole_ticks time t ≡ Whole k)) →
+    (time t : Fraction) → 0 < time.denominator → 0 < t.numerator → ((k : ℕ) × (whole_ticks time t ≡ Some k)) →
     (too_many (whole_ticks time t) ≡ true) ↔ TooManyTicks t time
 many_is time t pm pa (k, e) = (
   (λ b. (k, ticks_exact time t k e, ltb-true max_ticks k (ap too_many (sym e) ∙ b))),

@@ -7,37 +7,37 @@ use mathlib.Core.Logic.Iff
 use mathlib.Core.Logic.{◌↔◌}
 use mathlib.Core.List.{List, [], ◌∷◌, ◌++◌}
 use lib.ListN.{length}
+use Rattle.std.specs.Prelude.{Ok, Err}
 use Rattle.refusal.specs.declared.Refusal.{Refusal}
 use Rattle.refusal.specs.Paper as refusals
 use Rattle.refusal.specs.Paper.{Said, passes, refuse}
 use Rattle.refusal.specs.Order.{Check, in_turn, None, Gives, refusals_of, at_each}
 use Rattle.refusal.proofs.Answers.{Tells, gives_exactly, refusing_only, passes_not_refuse, refusals_both, refusals_in_turn}
 use Rattle.table.specs.declared.Entry.{Entry}
-use Rattle.table.specs.declared.Outcome.{Outcome}
-use Rattle.table.specs.declared.Outcome.TheVariants.{Passed, Refused}
 use Rattle.table.specs.Row.{entries, tick}
+use Rattle.table.specs.Answer.{Outcome}
 use Rattle.table.specs.Given.{train_checks, checked_order, multiple_checks, long_checks, order}
 use Rattle.table.specs.Paper.{paper}
 use Rattle.table.proofs.InOrder.{Follows}
 
 -- ---- Outcomes
 
-outcome_tells : Tells paper Refused refuse
+outcome_tells : Tells paper Err refuse
 outcome_tells = record { is = λ r. refl; only = found }
   where
     found :
         (o : Outcome) (number place : ℕ) → paper o ≡ refuse number place →
-        (r : Refusal) × (o ≡ Refused r) × (refusals.paper r ≡ record { number = number; place = place })
-    found Passed number place e = absurd (passes_not_refuse e)
-    found (Refused r) number place e = (r, refl, refusing_only r number place e)
+        (r : Refusal) × (o ≡ Err r) × (refusals.paper r ≡ record { number = number; place = place })
+    found (Ok tt) number place e = absurd (passes_not_refuse e)
+    found (Err r) number place e = (r, refl, refusing_only r number place e)
 
-pub passed_is : (o : Outcome) → (paper o ≡ passes) ↔ (o ≡ Passed)
-passed_is Passed = ((λ e. refl), (λ e. refl))
-passed_is (Refused r) = ((λ e. absurd (passes_not_refuse (sym e))), (λ e. ap paper e))
+pub passed_is : (o : Outcome) → (paper o ≡ passes) ↔ (o ≡ Ok tt)
+passed_is (Ok tt) = ((λ e. refl), (λ e. refl))
+passed_is (Err r) = ((λ e. absurd (passes_not_refuse (sym e))), (λ e. ap paper e))
 
 module _ (o : Outcome) (order : List Check) (follows : Follows o order) where
   pub follows_gives : (number place : ℕ) → (paper o ≡ refuse number place) ↔ Gives order number place
-  follows_gives = gives_exactly paper Refused refuse outcome_tells order o follows.refused
+  follows_gives = gives_exactly paper Err refuse outcome_tells order o follows.refused
 
   pub follows_passes : (paper o ≡ passes) ↔ None order
   follows_passes = Iff.trans (passed_is o) follows.passed

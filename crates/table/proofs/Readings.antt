@@ -1,5 +1,5 @@
--- The laws of the whole reading: the ways through it, and what a table is that passes.
--- Core: read_checked, read_multiple, read_rest, trains_at. The rest follows from these and from refusal_follows.
+-- The laws of the whole reading: its tick, and what a table is that passes.
+-- Core: read_tick, trains_at. The rest follows from these and from refusal_follows.
 -- Assumes nothing.
 use Prim.Native.Nat.{ℕ, zero, suc, ◌*◌, ◌<◌, ◌≤◌}
 use mathlib.Core.Path.{◌≡◌, refl, sym, ap, subst, ◌∙◌}
@@ -9,12 +9,11 @@ use native.Mathlib.Nat.{mul-pos}
 use native.Mathlib.Omega.{arith}
 use lib.ListN.{length, get_or, take, length-map}
 use lib.Seq.{take_all}
+use Rattle.std.specs.Prelude.{Some, Result, Ok, Err}
 use Rattle.refusal.specs.declared.Refusal.{Refusal}
 use Rattle.refusal.specs.Order.{in_turn, None}
 use Rattle.refusal.proofs.Orders.{none_of_both, none_each}
 use Rattle.fraction.specs.declared.Fraction.{Fraction}
-use Rattle.fraction.specs.declared.Ticks.TheVariants.{Whole}
-use Rattle.fraction.specs.declared.Multiple.TheVariants.{Within}
 use Rattle.fraction.specs.Value.{IsTicks}
 use Rattle.fraction.specs.Answer.{whole_ticks, limit, common_multiple, running}
 use Rattle.fraction.proofs.CommonMultiple.{running_within}
@@ -22,13 +21,10 @@ use Rattle.fraction.proofs.WholeTicks.{ticks_exact}
 use Rattle.fraction.proofs.Order.{above_ticks}
 use Rattle.train.specs.Claims.{Limits}
 use Rattle.table.specs.declared.Entry.{Entry}
-use Rattle.table.specs.declared.Outcome.{Outcome}
-use Rattle.table.specs.declared.Outcome.TheVariants.{Passed, Refused}
-use Rattle.table.specs.declared.Reading.{Reading}
+use Rattle.table.specs.declared.Table.{Table}
 use Rattle.table.specs.Row.{capacity, no_entry, entries, denominators, multiple, tick, whole, ticks_of, train_of, trains, ExactTrain}
 use Rattle.table.specs.Given.{checked_order, multiple_checks, long_checks}
-use Rattle.table.specs.Answer.{or_else, checked, multiple_checked, ticks_checked, refusal, no_train, table_of, refused, read_after, reading}
-use Rattle.table.specs.Inside.{read_ticks}
+use Rattle.table.specs.Answer.{Outcome, or_else, checked, refusal, no_train, table_of, reading}
 use Rattle.table.proofs.Entries.{entries_few}
 use Rattle.table.proofs.Following.{AllSound, not_above, checked_follows, checked_sound, checked_length}
 use Rattle.table.proofs.Limits.{multiple_pos, ticks_at, refusal_follows}
@@ -53,46 +49,34 @@ get_d_map f [] i a b h = absurd (omega arith)
 get_d_map f (x ∷ l) zero a b h = refl
 get_d_map f (x ∷ l) (suc i) a b h = get_d_map f l i a b (omega arith)
 
--- the ways through the code's reading
+-- a value that there is after an outcome, and the outcome from the answer
+module _ {A : Type 0} (value : A) where
+  pub refused_behind : {r : Refusal} (o : Outcome) → or_else o (Ok value) ≡ Err r → o ≡ Err r
+  refused_behind (Ok _) e = cc
+  refused_behind (Err r) e = cc
+
+  pub passed_behind : {x : A} (o : Outcome) → or_else o (Ok value) ≡ Ok x → o ≡ Ok tt
+  passed_behind (Ok _) e = refl
+  passed_behind (Err r) e = cc
+
+  pub value_behind : {x : A} (o : Outcome) → or_else o (Ok value) ≡ Ok x → x ≡ value
+  value_behind (Ok _) e = cc
+  value_behind (Err r) e = cc
+
 module _ (row : List ℕ) where
-  -- the reading, from the outcomes of its first two stages
-  from : (first second : Outcome) → Reading
-  from first second =
-      read_after (or_else first (or_else second (ticks_checked (tick (entries row)) (entries row)))) (table_of (tick (entries row)) (entries row))
-
-  stages : from (checked row) (multiple_checked (entries row)) ≡ reading row
-  unfolding reading refusal from
-  stages = refl
-
-  pub read_checked : (r : Refusal) → checked row ≡ Refused r → refused r ≡ reading row
-  unfolding from
-  read_checked r e = ap (λ (o : Outcome). from o (multiple_checked (entries row))) (sym e) ∙ stages
-
-  pub read_multiple : (r : Refusal) → checked row ≡ Passed → multiple_checked (entries row) ≡ Refused r → refused r ≡ reading row
-  unfolding from
-  read_multiple r e f = (λ i. from (sym e i) (sym f i)) ∙ stages
-
   -- the multiple that the code has found is L
   pub read_tick :
-      (m : ℕ) → checked row ≡ Passed → running (denominators (entries row)) ≡ Within m →
+      (m : ℕ) → checked row ≡ Ok tt → running (denominators (entries row)) ≡ Some m →
       record { numerator = 1; denominator = m } ≡ tick (entries row)
   read_tick m e w =
       ap (λ (l : ℕ). record { numerator = 1; denominator = l })
       (running_within (denominators (entries row)) m (multiple_pos (entries row) (checked_sound row e)) w)
 
-  pub read_rest :
-      (m : ℕ) (r : Reading) → checked row ≡ Passed → multiple_checked (entries row) ≡ Passed →
-      running (denominators (entries row)) ≡ Within m →
-      r ≡ read_ticks (record { numerator = 1; denominator = m }) (entries row) → r ≡ reading row
-  unfolding from
-  read_rest m r e f w is =
-      is ∙ ap (λ (t : Fraction). read_ticks t (entries row)) (read_tick m e w) ∙ (λ i. from (sym e i) (sym f i)) ∙ stages
-
   -- ---- What a table is that it passes
 
   -- no condition of the order's three parts holds
   passed_none :
-      refusal row ≡ Passed →
+      refusal row ≡ Ok tt →
       (None (checked_order row) × None (in_turn (multiple_checks (entries row)) 0 (entries row)))
       × None (in_turn (long_checks (tick (entries row))) 0 (entries row))
   passed_none e =
@@ -101,10 +85,10 @@ module _ (row : List ℕ) where
       ((none_of_both (checked_order row) _).0 parts.0, parts.1)
 
   -- what passes all passes the first
-  pub passed_checked : refusal row ≡ Passed → checked row ≡ Passed
+  pub passed_checked : refusal row ≡ Ok tt → checked row ≡ Ok tt
   passed_checked e = (checked_follows row).passed.1 (passed_none e).0.0
 
-  pub passed_sound : refusal row ≡ Passed → AllSound (entries row)
+  pub passed_sound : refusal row ≡ Ok tt → AllSound (entries row)
   passed_sound e = checked_sound row (passed_checked e)
 
   pub trains_length : length (trains row) ≡ length (entries row)
@@ -118,7 +102,7 @@ module _ (row : List ℕ) where
   unfolding trains
   trains_at i h = get_d_map (train_of (tick (entries row))) (entries row) i no_entry no_train h
 
-  module _ (e : refusal row ≡ Passed) where
+  module _ (e : refusal row ≡ Ok tt) where
     pub passed_limit : multiple (entries row) ≤ limit
     unfolding None
     passed_limit =
@@ -131,9 +115,9 @@ module _ (row : List ℕ) where
     module _ (i : ℕ) (h : i < length (entries row)) where
       -- one time
       exact_time :
-          (f : Fraction) → ((k : ℕ) × (whole_ticks f (tick (entries row)) ≡ Whole k)) →
+          (f : Fraction) → ((k : ℕ) × (whole_ticks f (tick (entries row)) ≡ Some k)) →
           IsTicks f (tick (entries row)) (ticks_of (tick (entries row)) f)
-      exact_time f (k, w) = ticks_exact f (tick (entries row)) (ticks_of (tick (entries row)) f) (w ∙ ap (λ t. Whole (whole t)) (sym w))
+      exact_time f (k, w) = ticks_exact f (tick (entries row)) (ticks_of (tick (entries row)) f) (w ∙ ap (λ t. Some (whole t)) (sym w))
 
       exact_entry :
           ExactTrain (tick (entries row)) (get_or (entries row) i no_entry) (train_of (tick (entries row)) (get_or (entries row) i no_entry))
@@ -167,14 +151,15 @@ module _ (row : List ℕ) where
 
   -- ---- The reading, for those who take it apart
 
-  pub reading_outcome : (reading row).outcome ≡ refusal row
-  unfolding reading
-  reading_outcome = go (refusal row)
-    where
-      go : (o : Outcome) → (read_after o (table_of (tick (entries row)) (entries row))).outcome ≡ o
-      go Passed = refl
-      go (Refused r) = refl
+  module _ (answer : Result Table Refusal) (is : answer ≡ reading row) where
+    pub reading_refused : (r : Refusal) → answer ≡ Err r → refusal row ≡ Err r
+    unfolding reading
+    reading_refused r e = refused_behind _ (refusal row) (sym is ∙ e)
 
-  pub reading_table : refusal row ≡ Passed → (reading row).table ≡ table_of (tick (entries row)) (entries row)
-  unfolding reading
-  reading_table e = ap (λ (o : Outcome). (read_after o (table_of (tick (entries row)) (entries row))).table) e
+    pub reading_passed : (t : Table) → answer ≡ Ok t → refusal row ≡ Ok tt
+    unfolding reading
+    reading_passed t e = passed_behind _ (refusal row) (sym is ∙ e)
+
+    pub reading_table : (t : Table) → answer ≡ Ok t → t ≡ table_of (tick (entries row)) (entries row)
+    unfolding reading
+    reading_table t e = value_behind _ (refusal row) (sym is ∙ e)

@@ -13,6 +13,8 @@ use native.Mathlib.Omega.{arith}
 use lib.Dec.{eqb, ltb}
 use lib.ListN.{length, get_or, take, length-map}
 use borrow.Author.Tests.{eqb-false, ne_eqb}
+use Rattle.std.specs.Prelude.{Result, Ok}
+use Rattle.refusal.specs.declared.Refusal.{Refusal}
 use Rattle.refusal.specs.declared.Refusal.TheVariants.{TrainCount, TickTooFine}
 use Rattle.fraction.specs.declared.Fraction.{Fraction}
 use Rattle.fraction.specs.Answer.{lowest, above, common_multiple, running}
@@ -20,10 +22,9 @@ use Rattle.fraction.proofs.Lowest.{lowest_none, lowest_same, lowest_terms, lowes
 use Rattle.fraction.proofs.WholeTicks.{ticks_lowest}
 use Rattle.fraction.proofs.Order.{above_same}
 use Rattle.table.specs.declared.Entry.{Entry}
-use Rattle.table.specs.declared.Outcome.{Outcome}
-use Rattle.table.specs.declared.Reading.{Reading}
+use Rattle.table.specs.declared.Table.{Table}
 use Rattle.table.specs.Row.{numbers, longest_row, no_entry, entries, lowest_entry, denominators, tick, train_of, SameTime, SameEntry, SameRow}
-use Rattle.table.specs.Answer.{test, or_else, first_refusal, no_denominator, no_time, entry_check, checked, is_above, multiple_check, multiple_checked, too_long, ticks_check, ticks_checked, refusal, filled, table_of, read_after, reading}
+use Rattle.table.specs.Answer.{Outcome, test, or_else, first_refusal, no_denominator, no_time, entry_check, checked, is_above, multiple_check, multiple_checked, too_long, ticks_check, ticks_checked, refusal, filled, table_of, reading}
 use Rattle.table.proofs.Entries.{entries_length}
 use Rattle.table.proofs.Checks.{three_tests}
 
@@ -155,13 +156,13 @@ trains_lowest unit [] = refl
 trains_lowest unit (e ∷ es) = λ j. train_lowest unit e j ∷ trains_lowest unit es j
 
 -- the reading of a row, of its length and its entries
-reading_of : ℕ → List Entry → Reading
+reading_of : ℕ → List Entry → Result Table Refusal
 reading_of n es =
-    read_after
+    or_else
     (or_else
     (or_else (test (not (eqb (n % numbers) 0)) TrainCount) (or_else (test (ltb longest_row n) TrainCount) (first_refusal entry_check 0 es)))
     (or_else (multiple_checked es) (ticks_checked (tick es) es)))
-    (table_of (tick es) es)
+    (Ok (table_of (tick es) es))
 
 reading_of_lem : (row : List ℕ) → reading row ≡ reading_of (length row) (entries row)
 unfolding reading refusal checked reading_of
@@ -177,12 +178,12 @@ reading_lowest n es =
     let short-same : ticks_checked (tick (map lowest_entry es)) (map lowest_entry es) ≡ ticks_checked (tick es) es =
     ap (λ (t : Fraction). ticks_checked t (map lowest_entry es)) tick-same ∙ first_lowest (ticks_check (tick es)) (long_lowest (tick es)) 0 es in
     λ j.
-    read_after
+    or_else
     (or_else
     (or_else (test (not (eqb (n % numbers) 0)) TrainCount)
     (or_else (test (ltb longest_row n) TrainCount) (first_lowest entry_check entry_lowest 0 es j)))
     (or_else (multiple_lowest es j) (short-same j)))
-    (record { tick = tick-same j; count = length-map es lowest_entry j; trains = filled (trains-same j) })
+    (Ok (record { tick = tick-same j; count = length-map es lowest_entry j; trains = filled (trains-same j) }))
 
 -- entries that are the same have the same lowest terms
 entries_same :

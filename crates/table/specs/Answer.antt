@@ -1,6 +1,7 @@
 -- The functions that the contracts cite. Promises says what they have to do with the words of Row and Given.
+--     Outcome                     that a check passes, or its refusal
 --     test b r                    one refusal: r where the test says so
---     or_else o p                 the first of two outcomes that is a refusal
+--     or_else o p                 the refusal of a check, or else what comes next
 --     first_refusal check i es    the first refusal of some trains, the first of which is at position i
 --     no_denominator e            whether a denominator is 0
 --     no_time e                   whether period or duration is 0
@@ -17,40 +18,35 @@
 --     no_train                    what stands in the array where there is no train
 --     filled ts                   the array of some trains
 --     table_of unit es            the table of some trains as fractions
---     refused r                   what is read after a refusal
---     read_after o table          a table, or the refusal that there is
 --     reading row                 the table of a row, as `read` answers it
-use Rattle.std.specs.Prelude.{ℕ, suc, ◌-◌, ◌%◌, Bool, true, false, not, ◌||◌, List, [], ◌∷◌, ◌++◌, map, ltb, eqb, length, take, replicate}
+use Rattle.std.specs.Prelude.{ℕ, suc, ◌-◌, ◌%◌, Bool, true, false, not, ◌||◌, List, [], ◌∷◌, ◌++◌, map, ltb, eqb, length, take, replicate, Option, None, Some, Result, Ok, Err}
 use Rattle.refusal.specs.declared.Refusal.{Refusal}
 use Rattle.refusal.specs.declared.Refusal.TheVariants.{TrainCount, ZeroDenominator, ZeroTime, DurationAbovePeriod, TickTooFine, TimeTooLong}
 use Rattle.fraction.specs.declared.Fraction.{Fraction}
-use Rattle.fraction.specs.declared.Ticks.{Ticks}
-use Rattle.fraction.specs.declared.Ticks.TheVariants.{NotWhole, Whole}
-use Rattle.fraction.specs.declared.Multiple.{Multiple}
-use Rattle.fraction.specs.declared.Multiple.TheVariants as multiples
 use Rattle.fraction.specs.Answer.{whole_ticks, above, running}
 use Rattle.train.specs.declared.Train.{Train}
 use Rattle.train.specs.Claims.{max_ticks}
 use Rattle.table.specs.declared.Entry.{Entry}
-use Rattle.table.specs.declared.Outcome.{Outcome}
-use Rattle.table.specs.declared.Outcome.TheVariants.{Passed, Refused}
 use Rattle.table.specs.declared.Table.{Table}
-use Rattle.table.specs.declared.Reading.{Reading}
 use Rattle.table.specs.Row.{capacity, numbers, longest_row, entries, denominators, tick, train_of}
+
+-- What a check answers: nothing, or its refusal.
+abbrev pub Outcome : Type 0
+Outcome = Result (Unit {0}) Refusal
 
 -- One refusal, where its test says so.
 abbrev pub test : Bool → Refusal → Outcome
-test true r = Refused r
-test false r = Passed
+test true r = Err r
+test false r = Ok tt
 
--- One check, and where it passes the next.
-abbrev pub or_else : Outcome → Outcome → Outcome
-or_else Passed next = next
-or_else (Refused r) next = Refused r
+-- One check, and where it passes what comes next.
+abbrev pub or_else : {A : Type 0} → Outcome → Result A Refusal → Result A Refusal
+or_else (Ok _) next = next
+or_else (Err r) next = Err r
 
 -- The trains one after the other, the first of them at position i.
 unfoldable pub first_refusal : (ℕ → Entry → Outcome) → ℕ → List Entry → Outcome
-first_refusal check i [] = Passed
+first_refusal check i [] = Ok tt
 first_refusal check i (e ∷ es) = or_else (check i e) (first_refusal check (suc i) es)
 
 -- Whether a denominator is 0.
@@ -76,9 +72,9 @@ checked row =
     (first_refusal entry_check 0 (entries row)))
 
 -- A multiple that is above the limit.
-abbrev pub is_above : Multiple → Bool
-is_above multiples.Above = true
-is_above (multiples.Within m) = false
+abbrev pub is_above : Option ℕ → Bool
+is_above None = true
+is_above (Some m) = false
 
 -- Refusal 5 at the train at position i: the multiple of the denominators up to and including its own is above the limit.
 abbrev pub multiple_check : List Entry → ℕ → Entry → Outcome
@@ -89,9 +85,9 @@ abbrev pub multiple_checked : List Entry → Outcome
 multiple_checked es = first_refusal (multiple_check es) 0 es
 
 -- A time that is not a number of ticks within the limit.
-abbrev pub too_many : Ticks → Bool
-too_many NotWhole = true
-too_many (Whole k) = ltb max_ticks k
+abbrev pub too_many : Option ℕ → Bool
+too_many None = true
+too_many (Some k) = ltb max_ticks k
 
 -- Whether a time of a train is so.
 unfoldable pub too_long : Fraction → Entry → Bool
@@ -122,15 +118,6 @@ filled ts = ts ++ replicate (capacity - length ts) no_train
 abbrev pub table_of : Fraction → List Entry → Table
 table_of unit es = record { tick = unit; count = length es; trains = filled (map (train_of unit) es) }
 
--- After a refusal: a table without a train.
-abbrev pub refused : Refusal → Reading
-refused r = record { outcome = Refused r; table = table_of (record { numerator = 1; denominator = 1 }) [] }
-
--- A table, or the refusal that there is.
-abbrev pub read_after : Outcome → Table → Reading
-read_after Passed table = record { outcome = Passed; table = table }
-read_after (Refused r) table = refused r
-
 -- What `read` answers.
-unfoldable pub reading : List ℕ → Reading
-reading row = read_after (refusal row) (table_of (tick (entries row)) (entries row))
+unfoldable pub reading : List ℕ → Result Table Refusal
+reading row = or_else (refusal row) (Ok (table_of (tick (entries row)) (entries row)))

@@ -25,11 +25,9 @@
 --     SameTime f h           two fractions stand for one time
 --     SameEntry e f          two trains whose times are the same
 --     SameRow row row'       two rows that differ at most in the terms of their fractions
-use Rattle.std.specs.Prelude.{ℕ, zero, suc, ◌+◌, ◌*◌, ◌/◌, ◌<◌, ◌≡◌, ◌⊎◌, length, get_or, drop}
+use Rattle.std.specs.Prelude.{ℕ, zero, suc, ◌+◌, ◌*◌, ◌/◌, ◌<◌, ◌≡◌, ◌⊎◌, length, get_or, drop, Option, None, Some}
 use mathlib.Core.List.{List, [], ◌∷◌, ◌++◌, map, flat_map}
 use Rattle.fraction.specs.declared.Fraction.{Fraction}
-use Rattle.fraction.specs.declared.Ticks.{Ticks}
-use Rattle.fraction.specs.declared.Ticks.TheVariants.{NotWhole, Whole}
 use Rattle.fraction.specs.Value.{SameValue, IsTicks}
 use Rattle.fraction.specs.Answer.{lowest, whole_ticks, common_multiple}
 use Rattle.train.specs.declared.Train.{Train}
@@ -112,9 +110,9 @@ abbrev pub tick : List Entry → Fraction
 tick es = record { numerator = 1; denominator = multiple es }
 
 -- The number of a whole number of ticks.
-abbrev pub whole : Ticks → ℕ
-whole NotWhole = 0
-whole (Whole k) = k
+abbrev pub whole : Option ℕ → ℕ
+whole None = 0
+whole (Some k) = k
 
 -- A time in ticks. (In a table that passes every time is a whole number of them: `trains_exact`.)
 abbrev pub ticks_of : (unit time : Fraction) → ℕ

@@ -2,16 +2,14 @@
 // trains in whole ticks. No public call has a `requires`: every row of 32-bit numbers has its answer.
 #![tactic(auto)]
 
-ghost use Rattle.std.specs.Prelude.{◌+◌, ◌*◌, ◌≤◌, ◌≡◌, length, get_or};
+ghost use Rattle.std.specs.Prelude.{◌+◌, ◌*◌, ◌≤◌, ◌≡◌, length, get_or, Some};
 ghost use Rattle.lent.specs.Lent.{fitted};
-ghost use Rattle.fraction.specs.Answer.{whole_ticks, running_from, running};
-ghost use Rattle.fraction.specs.declared.Multiple.TheVariants.{Within};
-ghost use Rattle.table.specs.declared.Outcome.TheVariants.{Passed};
-ghost use Rattle.table.specs.Row.{capacity, numbers, longest_row, record_length, time_at, no_entry, entries, numbers_of, denominators_of, denominators};
-ghost use Rattle.table.specs.Answer.{no_denominator, no_time, entry_check, checked, multiple_checked, refused, reading};
-ghost use Rattle.table.specs.Inside.{timed, train_timed, read_ticks};
+ghost use Rattle.fraction.specs.Answer.{whole_ticks, running_from};
+ghost use Rattle.table.specs.Row.{capacity, numbers, longest_row, record_length, time_at, no_entry, entries, numbers_of, denominators_of};
+ghost use Rattle.table.specs.Answer.{no_denominator, no_time, entry_check, checked, reading};
+ghost use Rattle.table.specs.Inside.{timed, train_timed, Found, read_ticks};
 
-use fraction::{Fraction, Multiple, Ticks};
+use fraction::{Fraction, including};
 use refusal::Refusal;
 use train::Train;
 
@@ -23,47 +21,32 @@ pub struct Entry {
     pub duration: Fraction,
 }
 
-// Whether there is a refusal.
-#[derive(Clone, Copy)]
-pub enum Outcome {
-    Passed,
-    Refused(Refusal),
-}
+// What stands for a time where there is none: no number has this denominator.
+const NO_TIME: Fraction = Fraction {
+    numerator: 0,
+    denominator: 0,
+};
 
-// The trains of a row in ticks. Behind the last one the array holds zeros.
+// What stands for a train of a row where there is none.
+const NO_ENTRY: Entry = Entry {
+    phase: NO_TIME,
+    period: NO_TIME,
+    duration: NO_TIME,
+};
+
+// What stands in a table where there is no train.
+const NO_TRAIN: Train = Train {
+    phase: 0,
+    period: 0,
+    duration: 0,
+};
+
+// The trains of a row in ticks. Behind the last one the array holds zeros: a table is of one size, and takes no heap.
 #[derive(Clone, Copy)]
 pub struct Table {
     pub tick: Fraction,
     pub count: usize,
     pub trains: [Train; Table::CAPACITY],
-}
-
-// The table of a row; after a refusal it has no train.
-#[derive(Clone, Copy)]
-pub struct Reading {
-    pub outcome: Outcome,
-    pub table: Table,
-}
-
-// L, where there is no refusal 5.
-#[derive(Clone, Copy)]
-struct Common {
-    outcome: Outcome,
-    multiple: u32,
-}
-
-// One time in ticks, within the limit of a train.
-#[derive(Clone, Copy)]
-enum Time {
-    TooLong,
-    Within(u32),
-}
-
-// One train in ticks, within the limits.
-#[derive(Clone, Copy)]
-enum Timed {
-    TooLong,
-    InTicks(Train),
 }
 
 impl Table {
@@ -92,37 +75,24 @@ fn time_at(row: &[u32], at: usize) -> Fraction
 }
 
 // A time in ticks, against the limit of a train. What is no whole number of ticks is in no table.
-fn ticks_within(time: Fraction, tick: Fraction) -> Time
+fn ticks_within(time: Fraction, tick: Fraction) -> Option<u32>
     ensures { result ≡ timed (whole_ticks time tick) }
 {
-    let ticks = time.ticks(tick);
-    match ticks {
-        Ticks::NotWhole => Time::TooLong,
-        Ticks::Whole(whole) => {
-            if whole <= Train::MAX_TICKS as u64 {
-                Time::Within(whole as u32)
-            } else {
-                Time::TooLong
-            }
-        }
+    let whole = time.ticks(tick)?;
+    if whole <= u64::from(Train::MAX_TICKS) {
+        Some(whole as u32)
+    } else {
+        None
     }
 }
 
 impl Entry {
-    // The entry at a position of a row; three times without a denominator where there is none.
+    // The entry at a position of a row; three times without a denominator where there is none, which 2 refuses.
     pub fn at(row: &[u32], position: usize) -> Entry
         ensures { result ≡ get_or (entries row.now) position no_entry }
     {
         if row.len() / Table::NUMBERS <= position {
-            let none = Fraction {
-                numerator: 0,
-                denominator: 0,
-            };
-            return Entry {
-                phase: none,
-                period: none,
-                duration: none,
-            };
+            return NO_ENTRY;
         }
         let at = position * Table::NUMBERS;
         Entry {
@@ -151,210 +121,125 @@ impl Entry {
     }
 
     // Whether a denominator is 0.
+    #[tactic(auto, unfolding(crate::specs::Answer::no_denominator))]
     fn lacks_denominator(self) -> bool
         ensures { result ≡ no_denominator self }
     {
-        if self.phase.denominator == 0 {
-            return true;
-        }
-        if self.period.denominator == 0 {
-            return true;
-        }
-        self.duration.denominator == 0
+        self.phase.denominator == 0
+            || self.period.denominator == 0
+            || self.duration.denominator == 0
     }
 
     // Whether period or duration is 0.
+    #[tactic(auto, unfolding(crate::specs::Answer::no_time))]
     fn lacks_time(self) -> bool
         ensures { result ≡ no_time self }
     {
-        if self.period.numerator == 0 {
-            return true;
-        }
-        self.duration.numerator == 0
+        self.period.numerator == 0 || self.duration.numerator == 0
     }
 
     // Refusals 2, 3 and 4, for the train at a position.
-    pub fn check(self, position: usize) -> Outcome
+    #[tactic(auto, unfolding(crate::specs::Answer::entry_check))]
+    pub fn check(self, position: usize) -> Result<(), Refusal>
         ensures { result ≡ entry_check position self }
     {
         if self.lacks_denominator() {
-            return Outcome::Refused(Refusal::ZeroDenominator(position));
+            return Err(Refusal::ZeroDenominator(position));
         }
         if self.lacks_time() {
-            return Outcome::Refused(Refusal::ZeroTime(position));
+            return Err(Refusal::ZeroTime(position));
         }
         if self.duration.above(self.period) {
-            return Outcome::Refused(Refusal::DurationAbovePeriod(position));
+            return Err(Refusal::DurationAbovePeriod(position));
         }
-        Outcome::Passed
+        Ok(())
     }
 
     // The running multiple with the denominators of this train, after reduction.
-    fn multiple(self, before: u32) -> Multiple
-        ensures { result ≡ running_from (Within before) (denominators_of self) }
+    #[tactic(auto, unfolding(fraction::specs::Answer::running_from))]
+    fn multiple(self, before: u32) -> Option<u32>
+        ensures { result ≡ running_from (Some before) (denominators_of self) }
     {
-        let phase = self.phase.lowest();
-        let period = self.period.lowest();
-        let duration = self.duration.lowest();
-        Multiple::Within(before)
-            .including(phase.denominator)
-            .including(period.denominator)
-            .including(duration.denominator)
+        let multiple = including(Some(before), self.phase.lowest().denominator);
+        let multiple = including(multiple, self.period.lowest().denominator);
+        including(multiple, self.duration.lowest().denominator)
     }
 
-    // This train in ticks.
-    fn in_ticks(self, tick: Fraction) -> Timed
+    // This train in ticks, within the limit of a train.
+    fn in_ticks(self, tick: Fraction) -> Option<Train>
         ensures { result ≡ train_timed tick self }
     {
-        let phase = ticks_within(self.phase, tick);
-        let period = ticks_within(self.period, tick);
-        let duration = ticks_within(self.duration, tick);
-        let Time::Within(phase) = phase else {
-            return Timed::TooLong;
-        };
-        let Time::Within(period) = period else {
-            return Timed::TooLong;
-        };
-        let Time::Within(duration) = duration else {
-            return Timed::TooLong;
-        };
-        Timed::InTicks(Train {
-            phase: phase,
-            period: period,
-            duration: duration,
+        Some(Train {
+            phase: ticks_within(self.phase, tick)?,
+            period: ticks_within(self.period, tick)?,
+            duration: ticks_within(self.duration, tick)?,
         })
     }
 }
 
 // Refusals 1 to 4, in the order of saving: 1, then train by train 2, 3 and 4.
-pub fn check(row: &[u32]) -> Outcome
+#[tactic(auto, unfolding(crate::specs::Answer::checked))]
+pub fn check(row: &[u32]) -> Result<(), Refusal>
     ensures { result ≡ checked row.now }
 {
-    if row.len() % Table::NUMBERS != 0 {
-        return Outcome::Refused(Refusal::TrainCount);
+    if row.len() % Table::NUMBERS != 0 || row.len() > Table::LONGEST_ROW {
+        return Err(Refusal::TrainCount);
     }
-    if row.len() > Table::LONGEST_ROW {
-        return Outcome::Refused(Refusal::TrainCount);
+    for position in 0..row.len() / Table::NUMBERS {
+        Entry::at(row, position).check(position)?;
     }
-    let count = row.len() / Table::NUMBERS;
-    let mut position: usize = 0;
-    while position < count {
-        let outcome = Entry::at(row, position).check(position);
-        match outcome {
-            Outcome::Refused(_) => return outcome,
-            Outcome::Passed => {}
-        }
-        position += 1;
-    }
-    Outcome::Passed
+    Ok(())
 }
 
 // The running multiple over a row: refusal 5 at the first train at which it passes the limit, or L.
-fn common_multiple(row: &[u32]) -> Common
-    ensures outcome_value { result.outcome ≡ multiple_checked (entries row.now) }
-    ensures found { result.outcome ≡ Passed → running (denominators (entries row.now)) ≡ Within result.multiple }
+fn common_multiple(row: &[u32]) -> Result<u32, Refusal>
+    ensures { Found (entries row.now) result }
 {
     let count = row.len() / Table::NUMBERS;
     let mut multiple: u32 = 1;
-    let mut position: usize = 0;
-    while position < count {
-        let next = Entry::at(row, position).multiple(multiple);
-        match next {
-            Multiple::Above => {
-                return Common {
-                    outcome: Outcome::Refused(Refusal::TickTooFine(position)),
-                    multiple: 0,
-                };
-            }
-            Multiple::Within(within) => multiple = within,
-        }
-        position += 1;
+    for position in 0..count {
+        multiple = Entry::at(row, position)
+            .multiple(multiple)
+            .ok_or(Refusal::TickTooFine(position))?;
     }
-    Common {
-        outcome: Outcome::Passed,
-        multiple: multiple,
-    }
-}
-
-impl Reading {
-    // A refusal, and a table without a train.
-    fn refused(refusal: Refusal) -> Reading
-        ensures { result ≡ refused refusal }
-    {
-        let none = Train {
-            phase: 0,
-            period: 0,
-            duration: 0,
-        };
-        Reading {
-            outcome: Outcome::Refused(refusal),
-            table: Table {
-                tick: Fraction {
-                    numerator: 1,
-                    denominator: 1,
-                },
-                count: 0,
-                trains: [none; Table::CAPACITY],
-            },
-        }
-    }
+    Ok(multiple)
 }
 
 // The trains of a row in ticks: refusal 6 at the first with a time above the limit, or the table.
-fn read_ticks(row: &[u32], tick: Fraction) -> Reading
+fn read_ticks(row: &[u32], tick: Fraction) -> Result<Table, Refusal>
     requires { length row.now ≤ longest_row }
     ensures { result ≡ read_ticks tick (entries row.now) }
 {
-    let none = Train {
-        phase: 0,
-        period: 0,
-        duration: 0,
-    };
-    let mut trains = [none; Table::CAPACITY];
     let count = row.len() / Table::NUMBERS;
-    let mut position: usize = 0;
-    while position < count {
-        let timed = Entry::at(row, position).in_ticks(tick);
-        match timed {
-            Timed::TooLong => return Reading::refused(Refusal::TimeTooLong(position)),
-            Timed::InTicks(train) => trains[position] = train,
-        }
-        position += 1;
+    let mut trains = [NO_TRAIN; Table::CAPACITY];
+    for position in 0..count {
+        trains[position] = Entry::at(row, position)
+            .in_ticks(tick)
+            .ok_or(Refusal::TimeTooLong(position))?;
     }
-    Reading {
-        outcome: Outcome::Passed,
-        table: Table {
-            tick: tick,
-            count: count,
-            trains: trains,
-        },
-    }
+    Ok(Table {
+        tick,
+        count,
+        trains,
+    })
 }
 
 // The table of a row, or its refusal: 1; then train by train 2, 3 and 4; then 5 over the table; then 6.
-pub fn read(row: &[u32]) -> Reading
+#[tactic(auto, using(crate::proofs::Following::checked_length, crate::proofs::Readings::read_tick), unfolding(crate::specs::Answer::reading, crate::specs::Answer::refusal))]
+pub fn read(row: &[u32]) -> Result<Table, Refusal>
     ensures value { result ≡ reading row.now }
     ensures capacity { Table.CAPACITY ≡ capacity }
     ensures numbers { Table.NUMBERS ≡ numbers }
     ensures longest_row { Table.LONGEST_ROW ≡ longest_row }
     ensures record_length { Table.RECORD_LENGTH ≡ record_length }
 {
-    let checked = check(row);
-    match checked {
-        Outcome::Refused(refusal) => return Reading::refused(refusal),
-        Outcome::Passed => {}
-    }
-    let common = common_multiple(row);
-    let outcome = common.outcome;
-    match outcome {
-        Outcome::Refused(refusal) => return Reading::refused(refusal),
-        Outcome::Passed => {}
-    }
+    check(row)?;
+    let multiple = common_multiple(row)?;
     read_ticks(
         row,
         Fraction {
             numerator: 1,
-            denominator: common.multiple,
+            denominator: multiple,
         },
     )
 }

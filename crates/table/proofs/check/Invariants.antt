@@ -1,6 +1,5 @@
 -- The loop's invariant in `check`: what there is to refuse from the first train on is what there is to
--- refuse from here on. The measure is the trains that are left.
-use Prim.Native.Nat.{◌-◌}
+-- refuse from here on.
 use Rattle.table.specs.Row.{entries}
 use Rattle.table.specs.Answer.{entry_check}
 use Rattle.table.proofs.Checks.{Passing}
@@ -8,6 +7,3 @@ use Rattle.table.proofs.check.Given as goal
 
 abbrev pub invariant-loop-position : goal.invariant-loop-position
 invariant-loop-position l = Passing entry_check (entries l.row) l.position
-
-abbrev pub decreases-loop-position : goal.decreases-loop-position
-decreases-loop-position l = l.count - l.position
