@@ -14,8 +14,8 @@ use Rattle.refusal.specs.Paper.{Said, paper, answers, refuse}
 use Rattle.refusal.specs.Order.{Check, ◌when◌, in_turn, None, Gives, refusals_of, at_each}
 use Rattle.refusal.proofs.Answers.{Tells, gives_exactly, refusing_only, answers_not_refuse, answers_only, refusals_both, refusals_in_turn}
 use Rattle.table.specs.declared.Entry.{Entry}
-use Rattle.table.specs.declared.Outcome.{Outcome}
 use Rattle.table.specs.Row.{Words, numbers, record_length, entries, row_of, lowest_row, lowest_entry}
+use Rattle.table.specs.Answer.{Outcome, or_else}
 use Rattle.table.specs.Given.{checked_order}
 use Rattle.table.proofs.InOrder.{Follows}
 use Rattle.table.proofs.Numbers.{checked_in_order}
@@ -23,7 +23,7 @@ use Rattle.stored.specs.Layout.{head_length, bytes_of, Bytes, StoredAs}
 use Rattle.stored.specs.Found.{count_in, trains_in}
 use Rattle.stored.specs.Given.{save_order, stored_checks, head_checks, load_order}
 use Rattle.stored.specs.Paper.{paper_answer}
-use Rattle.stored.specs.Answer.{save_check, answer_after, saved, saved_in, buffer_after, load_check, loaded, loaded_in, row_after}
+use Rattle.stored.specs.Answer.{save_check, saved, saved_in, buffer_after, load_check, loaded, loaded_in, row_after}
 use Rattle.stored.proofs.Lengths.{records_length}
 use Rattle.stored.proofs.Following as following
 use Rattle.stored.proofs.Following.{save_follows, load_follows, answer_refused, answer_value}
@@ -48,14 +48,14 @@ answer_is (Err r) n = ((λ e. absurd (answers_not_refuse (sym e))), (λ e. ap pa
 
 -- an answer after checks that follow an order has a number and a train exactly when the order gives them, and a value where none holds
 module _ (o : Outcome) (order : List Check) (follows : Follows o order) (value : ℕ) where
-  pub answer_gives : (number train : ℕ) → (paper_answer (answer_after o value) ≡ refuse number train) ↔ Gives order number train
+  pub answer_gives : (number train : ℕ) → (paper_answer (or_else o (Ok value)) ≡ refuse number train) ↔ Gives order number train
   answer_gives =
-      gives_exactly paper_answer Err refuse answer_tells order (answer_after o value)
+      gives_exactly paper_answer Err refuse answer_tells order (or_else o (Ok value))
       (λ r. Iff.trans (answer_refused o value r) (follows.refused r))
 
-  pub answer_answers : (n : ℕ) → (paper_answer (answer_after o value) ≡ answers n) ↔ (None order × (n ≡ value))
-  answer_answers n =
-      Iff.trans (answer_is (answer_after o value) n)
+  pub answer_passes : (n : ℕ) → (paper_answer (or_else o (Ok value)) ≡ answers n) ↔ (None order × (n ≡ value))
+  answer_passes n =
+      Iff.trans (answer_is (or_else o (Ok value)) n)
       (Iff.trans (answer_value o value n) ((λ w. (follows.passed.0 w.0, sym w.1)), (λ w. (follows.passed.1 w.0, sym w.1))))
 
 -- what a call leaves is what its answer says
