@@ -1,17 +1,21 @@
 -- A word in a text.
--- Core: begins_is and begins_self, that a text begins with a word exactly when it is the word and something behind it; begins_at, what
--- that is at an index. The rest follows from these.
+-- Core: begins_is and begins_self, that a text begins with a word exactly when it is the word and something behind it. The rest follows
+-- from these.
 -- Assumes nothing.
 use Prim.Native.Nat.{ℕ, ◌+◌, ◌-◌, ◌<◌, ◌≤◌}
-use mathlib.Core.Path.{◌≡◌, refl, ap}
+use mathlib.Core.Path.{◌≡◌, refl, sym, ap, ◌∙◌}
 use mathlib.Core.Bool.{Bool, true, false, cond}
+use mathlib.Core.Logic.{◌⊎◌}
 use mathlib.Core.List.{List, [], ◌∷◌, ◌++◌}
-use native.Mathlib.Numerals.{add-one}
 use native.Mathlib.Omega.{arith}
+use denote.Ref.{Bor}
+use Rattle.std.specs.Prelude.{Option, None, Some, MatchOption}
+use Rattle.std.specs.Option.{unwrap_or}
 use lib.Dec.{eqb}
-use lib.ListN.{length, get_or, drop, drop_of_length-le, length-append, length-drop}
-use lib.Seq.{drop-cons}
-use borrow.Author.Tests.{eqb-true, eq-eqb, ne_eqb}
+use lib.ListN.{length, take, drop, drop_of_length-le, length-append, length-drop}
+use native.Mathlib.Nat.{le_refl}
+use Rattle.std.proofs.lemmas.Slice.{between_to_end}
+use borrow.Author.Tests.{eqb-true, eq-eqb}
 use Rattle.lent.specs.Words.{begins_with}
 
 -- a text that begins with a word is the word and something behind it
@@ -40,29 +44,26 @@ begins_within word text at e =
     let long : length rest ≡ length (word ++ drop (length word) rest) = ap length (begins_is word rest e) in
     omega (arith, long, length-append word (drop (length word) rest), length-drop at text)
 
--- ---- Letter by letter
+-- a test that tells the same tells whether a text begins with a word
+pub begins_told :
+    (word text : List ℕ) (told : Bool) →
+    (told ≡ true → text ≡ word ++ drop (length word) text) × ((rest : List ℕ) → text ≡ word ++ rest → told ≡ true) →
+    told ≡ begins_with word text
+begins_told word text true tells = sym (ap (begins_with word) (tells.0 refl) ∙ begins_self word (drop (length word) text))
+begins_told word text false tells = go (begins_with word text) refl
+  where
+    go : (b : Bool) → begins_with word text ≡ b → false ≡ b
+    go true e = tells.1 (drop (length word) text) (begins_is word text e)
+    go false e = refl
 
-module _ (word text : List ℕ) (i at : ℕ) where
-  pub begins_all : length word ≤ i → true ≡ begins_with (drop i word) (drop at text)
-  unfolding begins_with
-  begins_all h = rw (drop_of_length-le word h)
-
-  module _ (more : i < length word) where
-    pub begins_short : length text ≤ at → false ≡ begins_with (drop i word) (drop at text)
-    unfolding begins_with
-    begins_short h = rw (drop_of_length-le text h, drop-cons word i 0 more)
-
-    module _ (within : at < length text) where
-      begins_at :
-          begins_with (drop i word) (drop at text)
-          ≡ cond (eqb (get_or text at 0) (get_or word i 0)) (begins_with (drop (i + 1) word) (drop (at + 1) text)) false
-      unfolding begins_with
-      begins_at = rw (add-one i, add-one at, drop-cons word i 0 more, drop-cons text at 0 within)
-
-      pub begins_other : (get_or text at 0 ≡ get_or word i 0 → ⊥) → false ≡ begins_with (drop i word) (drop at text)
-      begins_other h = rw (begins_at, ne_eqb (get_or text at 0) (get_or word i 0) h)
-
-      pub begins_on :
-          get_or text at 0 ≡ get_or word i 0 →
-          begins_with (drop (i + 1) word) (drop (at + 1) text) ≡ begins_with (drop i word) (drop at text)
-      begins_on h = rw (begins_at, eq-eqb (get_or text at 0) (get_or word i 0) h)
+-- what is looked at from an index on: of an index beyond the end, nothing
+pub rest_at :
+    (text : List ℕ) (at : ℕ) (r : Option (Bor (List ℕ))) (empty : Bor (List ℕ)) → empty.now ≡ [] →
+    MatchOption r ((length text < at) ⊎ (length text < length text))
+    (λ x. (at ≤ length text) × (length text ≤ length text) × (x.now ≡ take (length text - at) (drop at text)) × (length x.now + at ≡ length text)) →
+    (unwrap_or r empty).now ≡ drop at text
+rest_at text at None empty e h =
+    let beyond : length text ≤ at = omega (arith, h) in
+    e ∙ sym (drop_of_length-le text beyond)
+rest_at text at (Some x) empty e h =
+    h.2 ∙ between_to_end text at (length text) (le_refl (length text))
