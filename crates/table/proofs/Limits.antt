@@ -79,7 +79,7 @@ ticks_at es k sound h =
 above_is : (m : Option ℕ) → (is_above m ≡ true) ↔ (m ≡ None)
 above_is None = ((λ t. refl), (λ e. refl))
 above_is (Some n) =
-    ((λ t. let z : ◌≡◌ {A = ℕ} 0 1 = cc in absurd (omega arith)), (λ e. let z : ◌≡◌ {A = ℕ} 0 1 = cc in absurd (omega arith)))
+    ((λ t. cc), (λ e. cc))
 
 -- the test looks at the running multiple, which is L where no denominator is 0
 multiple_follows : (es : List Entry) → AllSound es → Follows (multiple_checked es) (in_turn (multiple_checks es) 0 es)

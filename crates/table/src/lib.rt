@@ -88,6 +88,7 @@ fn ticks_within(time: Fraction, tick: Fraction) -> Option<u32>
 
 impl Entry {
     // The entry at a position of a row; three times without a denominator where there is none, which 2 refuses.
+    #[tactic(auto, using(crate::proofs::Entries::entries_beyond, crate::proofs::Entries::entries_at))]
     pub fn at(row: &[u32], position: usize) -> Entry
         ensures { result ≡ get_or (entries row.now) position no_entry }
     {
@@ -103,21 +104,21 @@ impl Entry {
     }
 
     // Writes the six numbers of this train to a row, from an index on, if there is room for all of them.
+    #[tactic(auto, unfolding(lent::specs::Lent::fitted, lent::specs::Lent::over))]
     pub fn put(self, row: &mut [u32], at: usize)
         ensures { row.new ≡ fitted row.old at (numbers_of self) }
     {
-        if row.len() < Table::NUMBERS {
+        if row.len() < Table::NUMBERS || row.len() - Table::NUMBERS < at {
             return;
         }
-        if row.len() - Table::NUMBERS < at {
-            return;
-        }
-        row[at] = self.phase.numerator;
-        row[at + 1] = self.phase.denominator;
-        row[at + 2] = self.period.numerator;
-        row[at + 3] = self.period.denominator;
-        row[at + 4] = self.duration.numerator;
-        row[at + 5] = self.duration.denominator;
+        row[at..at + Table::NUMBERS].copy_from_slice(&[
+            self.phase.numerator,
+            self.phase.denominator,
+            self.period.numerator,
+            self.period.denominator,
+            self.duration.numerator,
+            self.duration.denominator,
+        ]);
     }
 
     // Whether a denominator is 0.
@@ -166,6 +167,7 @@ impl Entry {
     }
 
     // This train in ticks, within the limit of a train.
+    #[tactic(auto, unfolding(crate::specs::Inside::train_timed))]
     fn in_ticks(self, tick: Fraction) -> Option<Train>
         ensures { result ≡ train_timed tick self }
     {
@@ -178,7 +180,7 @@ impl Entry {
 }
 
 // Refusals 1 to 4, in the order of saving: 1, then train by train 2, 3 and 4.
-#[tactic(auto, unfolding(crate::specs::Answer::checked))]
+#[tactic(auto, using(crate::proofs::Checks::passing_laws), unfolding(crate::specs::Answer::checked))]
 pub fn check(row: &[u32]) -> Result<(), Refusal>
     ensures { result ≡ checked row.now }
 {
@@ -192,6 +194,7 @@ pub fn check(row: &[u32]) -> Result<(), Refusal>
 }
 
 // The running multiple over a row: refusal 5 at the first train at which it passes the limit, or L.
+#[tactic(auto, using(crate::proofs::RunningMultiple::running_laws))]
 fn common_multiple(row: &[u32]) -> Result<u32, Refusal>
     ensures { Found (entries row.now) result }
 {
@@ -206,6 +209,7 @@ fn common_multiple(row: &[u32]) -> Result<u32, Refusal>
 }
 
 // The trains of a row in ticks: refusal 6 at the first with a time above the limit, or the table.
+#[tactic(auto, using(crate::proofs::Ticking::filling_laws))]
 fn read_ticks(row: &[u32], tick: Fraction) -> Result<Table, Refusal>
     requires { length row.now ≤ longest_row }
     ensures { result ≡ read_ticks tick (entries row.now) }
