@@ -17,7 +17,6 @@ use Rattle.table.specs.Row.{denominators_of, denominators, no_entry}
 use Rattle.table.specs.Answer.{test, is_above, multiple_check, multiple_checked}
 use Rattle.table.specs.Inside.{Found}
 use Rattle.table.proofs.Checks.{Passing, passing_begins, passing_on, passing_refused, passing_ends}
-use Rattle.table.proofs.Entries.{entries_length}
 
 -- ---- Core laws
 
@@ -82,4 +81,4 @@ module _ (es : List Entry) (m i : ℕ) (r : Running es m i) where
       (sym (passing_ends (multiple_check es) es i r.passing h), ap (λ (fs : List Entry). running (denominators fs)) (sym (take_all i es h)) ∙ r.so_far)
 
 -- the laws of the loop, for the check
-pub ruleset running_laws = (entries_length, running_refused, running_ends)
+pub ruleset running_laws = (running_refused, running_ends)

@@ -63,6 +63,14 @@ impl Table {
     pub const LONGEST_ROW: usize = Self::CAPACITY * Self::NUMBERS;
 }
 
+// How many trains stand in a row.
+#[tactic(auto, using(crate::proofs::Entries::entries_length))]
+fn train_count(row: &[u32]) -> usize
+    ensures { result ≡ length (entries row.now) }
+{
+    row.len() / Table::NUMBERS
+}
+
 // The fraction that stands at `at` in a row.
 fn time_at(row: &[u32], at: usize) -> Fraction
     requires { at + 2 ≤ length row.now }
@@ -88,11 +96,11 @@ fn ticks_within(time: Fraction, tick: Fraction) -> Option<u32>
 
 impl Entry {
     // The entry at a position of a row; three times without a denominator where there is none, which 2 refuses.
-    #[tactic(auto, using(crate::proofs::Entries::entries_beyond, crate::proofs::Entries::entries_at))]
+    #[tactic(auto, using(crate::proofs::Entries::entries_length, crate::proofs::Entries::entries_at))]
     pub fn at(row: &[u32], position: usize) -> Entry
         ensures { result ≡ get_or (entries row.now) position no_entry }
     {
-        if row.len() / Table::NUMBERS <= position {
+        if train_count(row) <= position {
             return NO_ENTRY;
         }
         let at = position * Table::NUMBERS;
@@ -187,7 +195,7 @@ pub fn check(row: &[u32]) -> Result<(), Refusal>
     if row.len() % Table::NUMBERS != 0 || row.len() > Table::LONGEST_ROW {
         return Err(Refusal::TrainCount);
     }
-    for position in 0..row.len() / Table::NUMBERS {
+    for position in 0..train_count(row) {
         Entry::at(row, position).check(position)?;
     }
     Ok(())
@@ -198,7 +206,7 @@ pub fn check(row: &[u32]) -> Result<(), Refusal>
 fn common_multiple(row: &[u32]) -> Result<u32, Refusal>
     ensures { Found (entries row.now) result }
 {
-    let count = row.len() / Table::NUMBERS;
+    let count = train_count(row);
     let mut multiple: u32 = 1;
     for position in 0..count {
         multiple = Entry::at(row, position)
@@ -214,7 +222,7 @@ fn read_ticks(row: &[u32], tick: Fraction) -> Result<Table, Refusal>
     requires { length row.now ≤ longest_row }
     ensures { result ≡ read_ticks tick (entries row.now) }
 {
-    let count = row.len() / Table::NUMBERS;
+    let count = train_count(row);
     let mut trains = [NO_TRAIN; Table::CAPACITY];
     for position in 0..count {
         trains[position] = Entry::at(row, position)

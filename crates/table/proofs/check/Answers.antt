@@ -3,7 +3,7 @@
 use mathlib.Core.Path.{sym, ap, ◌∙◌}
 use Rattle.std.proofs.Common.{rules}
 use Rattle.table.specs.Answer.{entry_check}
-use Rattle.table.proofs.Entries.{entries_in_lem}
+use native.Mathlib.Omega.{arith}
 use Rattle.table.proofs.Checks.{passing_refused, checked_trains}
 use Rattle.table.proofs.check.Goals as goal
 
@@ -11,5 +11,5 @@ pub returns-in_err-check : goal.returns-in_err-check
 returns-in_err-check c =
     let found = sym (c.in_err-check.ensures ∙ ap (entry_check _) c.at.ensures) in
     let trains = checked_trains _ c.if-row-ne0.false c.if-row-gt-LONGEST_ROW.false in
-    let refused = passing_refused _ _ _ c.loop-position.invariant _ (entries_in_lem _ _ c.loop-position-test.true) found ∙ trains in
+    let refused = passing_refused _ _ _ c.loop-position.invariant _ (omega arith) found ∙ trains in
     search (rules, refused)

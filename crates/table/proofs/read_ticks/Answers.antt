@@ -3,7 +3,7 @@
 use mathlib.Core.Path.{sym, ap, ◌∙◌}
 use Rattle.std.proofs.Common.{rules}
 use Rattle.table.specs.Inside.{train_timed}
-use Rattle.table.proofs.Entries.{entries_in_lem}
+use native.Mathlib.Omega.{arith}
 use Rattle.table.proofs.Ticking.{filling_refused, filling_on}
 use Rattle.table.proofs.read_ticks.Goals as goal
 
@@ -11,10 +11,10 @@ pub returns-in_err-trains : goal.returns-in_err-trains
 returns-in_err-trains c =
     let timed = c.in_ticks.ensures ∙ ap (train_timed _) c.at.ensures in
     let refused =
-    filling_refused _ _ _ _ c.loop-position.invariant _ _ (entries_in_lem _ _ c.loop-position-test.true) timed c.in_err-trains.ensures.value in
+    filling_refused _ _ _ _ c.loop-position.invariant _ _ (omega arith) timed c.in_err-trains.ensures.value in
     search (rules, refused)
 
 pub loop-position-preserved : goal.loop-position-preserved
 loop-position-preserved c =
     let timed = c.in_ticks.ensures ∙ ap (train_timed _) c.at.ensures in
-    filling_on _ _ _ _ c.loop-position.invariant _ (entries_in_lem _ _ c.loop-position-test.true) (sym c.in_ok-trains.ensures.ok_part ∙ timed)
+    filling_on _ _ _ _ c.loop-position.invariant _ (omega arith) (sym c.in_ok-trains.ensures.ok_part ∙ timed)
