@@ -1,7 +1,7 @@
 -- The decimal notation of a number.
 -- Core: decimal_one and decimal_more, its two equations, and decimal_induction. All other laws rest on these.
 -- Assumes nothing.
-use Prim.Native.Nat.{ℕ, zero, suc, ◌+◌, ◌*◌, ◌-◌, ◌/◌, ◌%◌, ◌^◌, ◌<◌, ◌≤◌}
+use Prim.Native.Nat.{ℕ, zero, suc, ◌+◌, ◌*◌, ◌-◌, ◌/◌, ◌%◌, ◌^◌, ◌<◌, ◌≤◌, max}
 use mathlib.Core.Path.{◌≡◌, refl, sym, ap, ◌∙◌}
 use mathlib.Core.Logic.{⊎_elim}
 use mathlib.Core.List.{List, [], ◌∷◌, ◌++◌}
@@ -96,6 +96,25 @@ length_one n h = rw (decimal_one n h)
 
 pub length_more : (n : ℕ) → 10 ≤ n → length (decimal (n / 10)) + 1 ≡ length (decimal n)
 length_more n h = sym (ap length (decimal_more n h) ∙ length-append (decimal (n / 10)) (digit (n % 10) ∷ []))
+
+power_some : (k : ℕ) → 0 < 10 ^ k
+power_some zero = omega arith
+power_some (suc k) = omega (arith, power_some k, pow-suc 10 k)
+
+-- a number has one digit more than the power of ten that it reaches
+power_length : (k n : ℕ) → 10 ^ k ≤ n → n < 10 * 10 ^ k → k + 1 ≡ length (decimal n)
+power_length zero n from below = length_one n (omega arith)
+power_length (suc k) n from below =
+    let power : 10 ^ suc k ≡ 10 ^ k * 10 = pow-suc 10 k in
+    ap (λ (m : ℕ). m + 1) (omega (arith, power_length k (n / 10) (omega arith) (omega arith)))
+    ∙ length_more n (omega (arith, power_some k))
+
+pub width_is : (k n : ℕ) → 10 ^ k ≤ max n 1 → max n 1 < 10 * 10 ^ k → k + 1 ≡ length (decimal n)
+width_is zero n from below = length_one n (omega arith)
+width_is (suc k) n from below =
+    let power : 10 ^ suc k ≡ 10 ^ k * 10 = pow-suc 10 k in
+    let some : 0 < 10 ^ k = power_some k in
+    power_length (suc k) n (omega arith) (omega arith)
 
 -- there is a digit
 pub decimal_some : (n : ℕ) → 0 < length (decimal n)

@@ -11,8 +11,8 @@ use native.Mathlib.Omega.{arith}
 use lib.Dec.{ltb, leb}
 use Rattle.std.specs.Char.{is_ascii_digit}
 use Rattle.std.specs.Prelude.{Option, None, Some}
-use lib.ListN.{length, get_or, take, drop, drop_of_length-le, length-append, length-drop}
-use lib.Seq.{take-length, drop-cons, get_or-drop, drop-drop, drop-append_seam}
+use lib.ListN.{length, get_or, drop, drop_of_length-le, length-append, length-drop}
+use lib.Seq.{drop-cons, get_or-drop, drop-drop, drop-append_seam}
 use borrow.Author.Tests.{lt-ltb, le-ltb, lt-leb, le-leb, ltb-true, ltb-false}
 use Rattle.decimal.specs.declared.Number.{Number}
 use Rattle.decimal.specs.Answer.{is_digit, longer, Found, nothing, found, digits_from, number_in, indexed, number_at}
@@ -32,10 +32,6 @@ ascii_digit b = go (ltb b 48) refl
 
 pub is_one : (b : ℕ) {t u : Bool} → t ≡ is_ascii_digit b → t ≡ u → is_digit b ≡ u
 is_one b e f = sym (ascii_digit b) ∙ sym e ∙ f
-
--- what a slice from an index on is
-pub rest_of : (text : List ℕ) (at : ℕ) → at ≤ length text → take (length text - at) (drop at text) ≡ drop at text
-rest_of text at h = ap (λ (n : ℕ). take n (drop at text)) (sym (length-drop at text)) ∙ take-length (drop at text)
 
 module _ (v : ℕ) (text : List ℕ) (at : ℕ) where
   pub digits_end : length text ≤ at → found v (drop at text) ≡ digits_from v (drop at text)

@@ -1,5 +1,5 @@
 // Numbers as text, both ways: the decimal notation of a number is written to lent memory, and digits are read as a number.
-// No public function has a `requires`: without room nothing is written, and what is no number of 32 bits is missing.
+// No public function has a `requires`: without room nothing is written, and where no number of 32 bits stands the answer is `None`.
 #![tactic(auto)]
 
 ghost use Rattle.std.specs.Prelude.{◌≡◌, ◌+◌, ◌≤◌, ◌<◌, ◌^◌, length, drop, SomeIff};
@@ -15,45 +15,39 @@ pub struct Number {
     pub end: usize,
 }
 
-// How many digits n has.
+// How many digits n has: one more than the power of ten that it reaches, and 0 has as many as 1.
 pub fn width(n: u64) -> usize
     ensures { (result ≡ length (decimal n)) × (result ≤ 20) }
 {
-    if n < 10 {
-        return 1;
-    }
-    width(n / 10) + 1
+    n.max(1).ilog10() as usize + 1
 }
 
-// Writes the digits of n from `at` to `end`, the last first, since it is the one that division finds first.
-fn put_digits(n: u64, out: &mut [u8], at: usize, end: usize)
-    requires { (at + length (decimal n) ≡ end) × (end ≤ length out.old) }
-    ensures { out.new ≡ over out.old at (decimal n) }
+// Writes the digits of n, for which there is just room, the last first, since it is the one that division finds first.
+fn put_digits(n: u64, digits: &mut [u8])
+    requires { length digits.old ≡ length (decimal n) }
+    ensures { digits.new ≡ decimal n }
 {
     let mut left = n;
-    let mut place = end;
-    while at < place {
-        place -= 1;
-        out[place] = b'0' + (left % 10) as u8;
+    // By places and not `iter_mut().rev()`: what such a loop has written to the slice is in no fact that a proof can name.
+    for place in (0..digits.len()).rev() {
+        digits[place] = b'0' + (left % 10) as u8;
         left /= 10;
     }
 }
 
 // Writes the decimal notation of n at `at`, and answers where it ends. Without room for all of it nothing is written, and
 // `at` is answered.
+// The answer is a number and no Option: `at` where nothing is written is promised to each caller.
 pub fn put(n: u64, out: &mut [u8], at: usize) -> usize
     ensures end { result ≡ end_in (length out.old) at (decimal n) }
     ensures bytes { out.new ≡ fitted out.old at (decimal n) }
 {
-    if out.len() < at {
-        return at;
-    }
     let taken = width(n);
-    if out.len() - at < taken {
+    if out.len() < at || out.len() - at < taken {
         return at;
     }
     let end = at + taken;
-    put_digits(n, out, at, end);
+    put_digits(n, &mut out[at..end]);
     end
 }
 

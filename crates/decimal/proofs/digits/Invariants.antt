@@ -1,6 +1,5 @@
 -- `digits` meets its contract. The loop's invariant: the number that is found from the first digit on is the one that is found
 -- from here on, behind those that were passed.
-use Prim.Native.Nat.{◌+◌}
 use mathlib.Core.Path.{◌≡◌}
 use lib.ListN.{drop}
 use Rattle.decimal.specs.Answer.{digits_from}

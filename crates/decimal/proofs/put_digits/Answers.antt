@@ -1,18 +1,13 @@
--- `put_digits` meets its contract. The loop's invariant: from the place on the last digits are written, and those before it
--- are the digits of what is left. The measure is the place.
-use mathlib.Core.Path.{refl}
+-- `put_digits` meets its contract: a law for the beginning of the loop, its turn and its end.
 use native.Mathlib.Omega.{arith}
-use borrow.Author.Rules.{rules}
 use Rattle.decimal.proofs.Stores.{backwards_begins, backwards_on, backwards_ends}
 use Rattle.decimal.proofs.put_digits.Goals as goal
 
 pub loop-place-init : goal.loop-place-init
-loop-place-init c = (omega arith, refl, backwards_begins _ _ _ _ c.requires.0)
+loop-place-init c = backwards_begins _ _ c.requires
 
 pub loop-place-preserved : goal.loop-place-preserved
-loop-place-preserved c =
-    let turn = c.loop-place.invariant in
-    (omega arith, search rules, backwards_on _ _ _ _ _ _ c.loop-place-test.true (omega (arith, c.requires.0, c.requires.1)) turn.2)
+loop-place-preserved c = backwards_on _ _ _ _ c.loop-place-test.true (omega (arith, c.loop-place.auto.digits, c.loop-place.auto.place)) c.loop-place.invariant
 
 pub returns : goal.returns
-returns c = backwards_ends _ _ _ _ _ _ c.loop-place-test.false c.loop-place.invariant.2
+returns c = backwards_ends _ _ _ _ c.loop-place-test.false c.loop-place.invariant

@@ -1,10 +1,11 @@
 -- `spaced` meets its contract: there is a space, and behind it a number.
 use mathlib.Core.Path.{sym, ap, ◌∙◌}
+use native.Mathlib.Nat.{le_refl}
 use Rattle.std.proofs.Common.{None, Some, [], ◌∷◌}
 use Rattle.std.proofs.lemmas.Bool.Decides.{Decides-eqb}
+use Rattle.std.proofs.lemmas.Slice.{between_to_end}
 use Rattle.std.proofs.lemmas.Slice.Eq.{strip_prefix_is}
 use Rattle.decimal.specs.Answer.{found}
-use Rattle.decimal.proofs.Ways.{rest_of, read_index}
 use Rattle.script.specs.Says.{space}
 use Rattle.script.proofs.Ways.{spaced_other, spaced_is}
 use Rattle.script.proofs.spaced.Goals as goal
@@ -26,4 +27,4 @@ returns c =
     spaced_is _ _ (Some c.in_ok-number.number)
     (strip_prefix_is Decides-eqb c.args.text.now (space ∷ []) (Some c.in_ok-digits.digits) c.in_ok-digits.ensures.cases)
     c.in_ok-number.ensures
-    ∙ ap (found c.in_ok-number.number.value) (sym (rest_of _ _ (read_index _ 0 c.in_ok-number.number (sym c.in_ok-number.ensures)).1))
+    ∙ ap (found c.in_ok-number.number.value) (sym (between_to_end _ _ _ (le_refl _)))
