@@ -16,28 +16,24 @@ use Rattle.refusal.specs.Paper as refusals
 use Rattle.refusal.specs.Order.{First}
 use Rattle.refusal.proofs.Promises as refusals-proved
 use Rattle.train.specs.declared.Train.{Train}
-use Rattle.train.specs.declared.CommonTick.TheVariants.{At}
+use Rattle.std.specs.Prelude.{Some, Ok, Err}
 use Rattle.train.specs.Claims.{Limits, Claims, Both, Apart, Collide, Least}
 use Rattle.train.specs.Answer.{free, earliest}
 use Rattle.train.proofs.Test.{free_iff_apart, collides_iff}
 use Rattle.train.proofs.Least.{earliest_at, earliest_exists}
-use Rattle.table.specs.declared.Outcome.{Outcome}
-use Rattle.table.specs.declared.Outcome.TheVariants.{Passed, Refused}
 use Rattle.table.specs.Row.{entries, multiple, trains, SameRow}
 use Rattle.table.specs.Given.{order}
-use Rattle.table.specs.Answer.{refusal}
+use Rattle.table.specs.Answer.{Outcome, refusal}
 use Rattle.table.proofs.Readings.{trains_length, passed_few, passed_limits}
 use Rattle.table.proofs.Checks.{refused_not_passed}
 use Rattle.table.proofs.Limits.{refusal_follows}
 use Rattle.table.proofs.Terms.{reading_same}
-use Rattle.judge.specs.declared.Found.{Found}
-use Rattle.judge.specs.declared.Found.TheVariants.{Free, Meets}
 use Rattle.judge.specs.declared.Meeting.{Meeting}
 use Rattle.judge.specs.declared.Verdict.{Verdict}
 use Rattle.judge.specs.declared.Verdict.TheVariants as v
 use Rattle.judge.specs.Paper.{Shown, accept, collide, refuse, paper}
 use Rattle.judge.specs.Pairs.{train_at, Schedulable, Places, Before, PairOf, FirstPair, pairs, In, total, SummedTo}
-use Rattle.judge.specs.Answer.{tick_of, scan, found, verdict}
+use Rattle.judge.specs.Answer.{tick_of, Found, scan, found, verdict}
 use Rattle.judge.proofs.Walk.{pairs_few, total_few}
 use Rattle.judge.proofs.Ordered.{pairs_all, pairs_before, before_total, in_left}
 use Rattle.judge.proofs.Verdicts.{verdict_refused, verdict_found, verdict_read, verdict_read_lem, FreePair, scan_all_free, scan_first, meets_pair}
@@ -46,12 +42,12 @@ use Rattle.judge.proofs.Verdicts.{verdict_refused, verdict_found, verdict_read, 
 
 -- The three ways that the verdict on a row comes about.
 data View (row : List ℕ) : Type 0 where
-  refused : (r : Refusal) → refusal row ≡ Refused r → verdict row ≡ v.Refused r → View row
+  refused : (r : Refusal) → refusal row ≡ Err r → verdict row ≡ v.Refused r → View row
   accepted :
-      (d : ℕ) → refusal row ≡ Passed → scan (train_at (trains row)) (pairs (length (trains row))) 0 ≡ Free d →
+      (d : ℕ) → refusal row ≡ Ok tt → scan (train_at (trains row)) (pairs (length (trains row))) 0 ≡ Ok d →
       verdict row ≡ v.Accepted (record { multiple = multiple (entries row); divisions = d }) → View row
   meets :
-      (i j d : ℕ) → refusal row ≡ Passed → scan (train_at (trains row)) (pairs (length (trains row))) 0 ≡ Meets i j d →
+      (i j d : ℕ) → refusal row ≡ Ok tt → scan (train_at (trains row)) (pairs (length (trains row))) 0 ≡ Err (record { first = i; second = j; divisions = d }) →
       verdict row
       ≡ v.Collide (record { first = i; second = j; tick = tick_of (earliest (train_at (trains row) i) (train_at (trains row) j)) })
       (record { multiple = multiple (entries row); divisions = d }) → View row
@@ -59,13 +55,13 @@ data View (row : List ℕ) : Type 0 where
 view : (row : List ℕ) → View row
 view row = outcomes (refusal row) refl
   where
-    founds : refusal row ≡ Passed → (f : Found) → scan (train_at (trains row)) (pairs (length (trains row))) 0 ≡ f → View row
-    founds e (Free d) q = accepted d e q (sym (verdict_found row e) ∙ ap (found (multiple (entries row)) (train_at (trains row))) q)
-    founds e (Meets i j d) q = meets i j d e q (sym (verdict_found row e) ∙ ap (found (multiple (entries row)) (train_at (trains row))) q)
+    founds : refusal row ≡ Ok tt → (f : Found) → scan (train_at (trains row)) (pairs (length (trains row))) 0 ≡ f → View row
+    founds e (Ok d) q = accepted d e q (sym (verdict_found row e) ∙ ap (found (multiple (entries row)) (train_at (trains row))) q)
+    founds e (Err c) q = meets c.first c.second c.divisions e q (sym (verdict_found row e) ∙ ap (found (multiple (entries row)) (train_at (trains row))) q)
 
     outcomes : (o : Outcome) → refusal row ≡ o → View row
-    outcomes Passed e = founds e (scan (train_at (trains row)) (pairs (length (trains row))) 0) refl
-    outcomes (Refused r) e = refused r e (sym (verdict_refused row r e))
+    outcomes (Ok _) e = founds e (scan (train_at (trains row)) (pairs (length (trains row))) 0) refl
+    outcomes (Err r) e = refused r e (sym (verdict_refused row r e))
 
 -- the three kinds of printed lines
 kind : Shown → ℕ
@@ -83,22 +79,22 @@ module _ (row : List ℕ) where
   abbrev at : ℕ → Train
   at i = train_at (trains row) i
 
-  limits : refusal row ≡ Passed → (i : ℕ) → i < length (trains row) → Limits (at i)
+  limits : refusal row ≡ Ok tt → (i : ℕ) → i < length (trains row) → Limits (at i)
   limits e i h = passed_limits row e i (omega (arith, trains_length row))
 
   -- a pair that is free is apart, and one that is not collides
-  free_apart : refusal row ≡ Passed → (p : Places) → PairOf (length (trains row)) p → FreePair at p → Apart (at p.first) (at p.second)
+  free_apart : refusal row ≡ Ok tt → (p : Places) → PairOf (length (trains row)) p → FreePair at p → Apart (at p.first) (at p.second)
   free_apart e p h f =
       (free_iff_apart _ _ (limits e p.first (omega (arith, h.0, h.1))).strict (limits e p.second h.1).strict).0 f
 
   not_free :
-      refusal row ≡ Passed → (p : Places) → PairOf (length (trains row)) p → free (at p.first) (at p.second) ≡ false →
+      refusal row ≡ Ok tt → (p : Places) → PairOf (length (trains row)) p → free (at p.first) (at p.second) ≡ false →
       Collide (at p.first) (at p.second)
   not_free e p h f =
       (collides_iff _ _ (limits e p.first (omega (arith, h.0, h.1))).strict (limits e p.second h.1).strict).0 f
 
   -- a table whose pairs are all free is schedulable
-  all_schedulable : refusal row ≡ Passed → ((p : Places) → In p (pairs (length (trains row))) → FreePair at p) → Schedulable (trains row)
+  all_schedulable : refusal row ≡ Ok tt → ((p : Places) → In p (pairs (length (trains row))) → FreePair at p) → Schedulable (trains row)
   all_schedulable e all t i j hi hj differ ci cj = go (dec_le i j)
     where
       apart : (a b : ℕ) → a < b → b < length (trains row) → Claims (at a) t → Claims (at b) t → ⊥
@@ -112,7 +108,7 @@ module _ (row : List ℕ) where
 
   -- what the walk has found is the first pair that collides, at its earliest tick
   first_pair :
-      (i j d : ℕ) → refusal row ≡ Passed → scan at (pairs (length (trains row))) 0 ≡ Meets i j d →
+      (i j d : ℕ) → refusal row ≡ Ok tt → scan at (pairs (length (trains row))) 0 ≡ Err (record { first = i; second = j; divisions = d }) →
       FirstPair (trains row) (record { first = i; second = j })
   first_pair i j d e q =
       let p : Places = record { first = i; second = j } in
@@ -126,13 +122,13 @@ module _ (row : List ℕ) where
       }
 
   earliest_tick :
-      (i j : ℕ) → refusal row ≡ Passed → FirstPair (trains row) (record { first = i; second = j }) →
+      (i j : ℕ) → refusal row ≡ Ok tt → FirstPair (trains row) (record { first = i; second = j }) →
       Least (Both (at i) (at j)) (tick_of (earliest (at i) (at j)))
   earliest_tick i j e f =
       let li = limits e i (omega (arith, f.positions.0, f.positions.1)) in
       let lj = limits e j f.positions.1 in
       let w = (earliest_exists (at i) (at j) li lj).1 f.collides in
-      (earliest_at (at i) (at j) li lj (tick_of (earliest (at i) (at j)))).0 (w.1 ∙ ap (λ c. At (tick_of c)) (sym w.1))
+      (earliest_at (at i) (at j) li lj (tick_of (earliest (at i) (at j)))).0 (w.1 ∙ ap (λ c. Some (tick_of c)) (sym w.1))
 
   -- ---- The theorems
 
@@ -147,7 +143,7 @@ module _ (row : List ℕ) where
           let a : (refusals.paper s).number ≡ (refusals.paper r).number = cc in
           let b : (refusals.paper s).place ≡ (refusals.paper r).place = cc in
           let same = (refusals-proved.promises).paper_tells s r (λ i. record { number = a i; place = b i }) in
-          ((refusal_follows row).refused r).0 (e ∙ ap Refused same)
+          ((refusal_follows row).refused r).0 (e ∙ ap Err same)
       there (accepted d e f q) h = not_shown q h (λ z. omega arith)
       there (meets i j d e f q) h = not_shown q h (λ z. omega arith)
 
@@ -166,16 +162,16 @@ module _ (row : List ℕ) where
       go (accepted d e f q) = not_shown q h (λ z. omega arith)
       go (meets i j d e f q) = not_shown q h (λ z. omega arith)
 
-  pub accept_schedulable : ((L d : ℕ) × (paper (verdict row) ≡ accept L d)) ↔ ((refusal row ≡ Passed) × Schedulable (trains row))
+  pub accept_schedulable : ((L d : ℕ) × (paper (verdict row) ≡ accept L d)) ↔ ((refusal row ≡ Ok tt) × Schedulable (trains row))
   unfolding kind
   accept_schedulable = (λ w. there (view row) w.2, λ h. back (view row) h.0 h.1)
     where
-      there : View row → {L d : ℕ} → paper (verdict row) ≡ accept L d → (refusal row ≡ Passed) × Schedulable (trains row)
+      there : View row → {L d : ℕ} → paper (verdict row) ≡ accept L d → (refusal row ≡ Ok tt) × Schedulable (trains row)
       there (refused r e q) h = not_shown q h (λ z. omega arith)
       there (accepted d e f q) h = (e, all_schedulable e (scan_all_free at (pairs (length (trains row))) 0 d f).0)
       there (meets i j d e f q) h = not_shown q h (λ z. omega arith)
 
-      back : View row → refusal row ≡ Passed → Schedulable (trains row) → (L d : ℕ) × (paper (verdict row) ≡ accept L d)
+      back : View row → refusal row ≡ Ok tt → Schedulable (trains row) → (L d : ℕ) × (paper (verdict row) ≡ accept L d)
       back (refused r e q) p s = absurd (refused_not_passed r (sym e ∙ p))
       back (accepted d e f q) p s = (multiple (entries row), d, ap paper q)
       back (meets i j d e f q) p s =
@@ -201,13 +197,13 @@ module _ (row : List ℕ) where
   pub collide_exactly :
       (i j t : ℕ) →
       ((L d : ℕ) × (paper (verdict row) ≡ collide i j t L d))
-      ↔ ((refusal row ≡ Passed) × FirstPair (trains row) (record { first = i; second = j }) × Least (Both (at i) (at j)) t)
+      ↔ ((refusal row ≡ Ok tt) × FirstPair (trains row) (record { first = i; second = j }) × Least (Both (at i) (at j)) t)
   unfolding kind
   collide_exactly i j t = (λ w. there (view row) w.2, λ h. back (view row) h.0 h.1 h.2)
     where
       there :
           View row → {L d : ℕ} → paper (verdict row) ≡ collide i j t L d →
-          (refusal row ≡ Passed) × FirstPair (trains row) (record { first = i; second = j }) × Least (Both (at i) (at j)) t
+          (refusal row ≡ Ok tt) × FirstPair (trains row) (record { first = i; second = j }) × Least (Both (at i) (at j)) t
       there (refused r e q) h = not_shown q h (λ z. omega arith)
       there (accepted d e f q) h = not_shown q h (λ z. omega arith)
       there (meets i' j' d e f q) h =
@@ -221,7 +217,7 @@ module _ (row : List ℕ) where
           (e, shows.0, shows.1)
 
       back :
-          View row → refusal row ≡ Passed → FirstPair (trains row) (record { first = i; second = j }) → Least (Both (at i) (at j)) t →
+          View row → refusal row ≡ Ok tt → FirstPair (trains row) (record { first = i; second = j }) → Least (Both (at i) (at j)) t →
           (L d : ℕ) × (paper (verdict row) ≡ collide i j t L d)
       back (refused r e q) p first least = absurd (refused_not_passed r (sym e ∙ p))
       back (accepted d e f q) p first least =
@@ -304,7 +300,7 @@ module _ (row : List ℕ) where
     summed_few : length s.before + 1 ≤ length (pairs (length (trains row)))
     summed_few = omega (arith, summed_count, ap length summed_whole, length-append summed s.behind)
 
-  few : refusal row ≡ Passed → length (pairs (length (trains row))) ≤ 2_016
+  few : refusal row ≡ Ok tt → length (pairs (length (trains row))) ≤ 2_016
   few e = pairs_few (length (trains row)) (omega (arith, trains_length row, passed_few row e))
 
   pub accept_divisions : (L d : ℕ) → paper (verdict row) ≡ accept L d → d ≤ 66_528

@@ -1,10 +1,9 @@
 -- What is proved of verdicts, a line each; proofs/Promises.antt proves the whole record.
-use Rattle.std.specs.Prelude.{ℕ, ◌+◌, ◌*◌, ◌-◌, ◌≤◌, ◌≡◌, ◌↔◌, List, ◌∷◌, ◌++◌, length}
+use Rattle.std.specs.Prelude.{ℕ, ◌+◌, ◌*◌, ◌-◌, ◌≤◌, ◌≡◌, ◌↔◌, List, ◌∷◌, ◌++◌, length, Ok}
 use Rattle.refusal.specs.declared.Refusal.{Refusal}
 use Rattle.refusal.specs.Paper as refusals
 use Rattle.refusal.specs.Order.{First}
 use Rattle.train.specs.Claims.{Both, Least}
-use Rattle.table.specs.declared.Outcome.TheVariants.{Passed}
 use Rattle.table.specs.Row.{capacity, entries, multiple, trains, SameRow}
 use Rattle.table.specs.Given.{order}
 use Rattle.table.specs.Answer.{refusal}
@@ -30,13 +29,13 @@ pub record Promises : Type 0 where
       (r : Refusal) × First (order row) r × (refusals.paper r ≡ record { number = number; place = train })
   -- A row is accepted exactly when it is not refused and its table is schedulable.
   pub accept_schedulable :
-      (row : List ℕ) → ((L d : ℕ) × (paper (verdict row) ≡ accept L d)) ↔ ((refusal row ≡ Passed) × Schedulable (trains row))
+      (row : List ℕ) → ((L d : ℕ) × (paper (verdict row) ≡ accept L d)) ↔ ((refusal row ≡ Ok tt) × Schedulable (trains row))
   -- Positions i and j and tick t are shown exactly when the row is not refused, (i, j) is the first pair that collides, and t is
   -- the earliest tick that the two claim together.
   pub collide_exactly :
       (row : List ℕ) (i j t : ℕ) →
       ((L d : ℕ) × (paper (verdict row) ≡ collide i j t L d))
-      ↔ ((refusal row ≡ Passed) × FirstPair (trains row) (record { first = i; second = j })
+      ↔ ((refusal row ≡ Ok tt) × FirstPair (trains row) (record { first = i; second = j })
       × Least (Both (train_at (trains row) i) (train_at (trains row) j)) t)
   -- L is the table's, and the division count is summed over the pairs in order, all of them or up to and including the first
   -- that collides.

@@ -2,15 +2,14 @@
 // division count. No public call has a `requires`: every row of 32-bit numbers has its verdict.
 #![tactic(auto)]
 
-ghost use Rattle.std.specs.Prelude.{◌≡◌};
+ghost use Rattle.std.specs.Prelude.{◌≡◌, ◌+◌, ◌*◌, ◌≤◌, length, Ok, IfOk};
+ghost use Rattle.table.specs.Row.{capacity};
 ghost use Rattle.judge.specs.Pairs.{train_at, pairs};
-ghost use Rattle.judge.specs.Answer.{scan, tick_of, verdict};
-ghost use Rattle.judge.specs.Inside.{Scannable};
-ghost use Rattle.train.specs.Answer.{earliest};
+ghost use Rattle.judge.specs.Answer.{scan, judged, verdict};
+ghost use Rattle.judge.specs.Inside.{Scannable, Begun, pairs_behind};
 
 use refusal::Refusal;
-use table::{Outcome, Table};
-use train::{CommonTick, Train};
+use train::Train;
 
 // L, and the division count.
 #[derive(Clone, Copy)]
@@ -37,76 +36,84 @@ pub enum Verdict {
     Refused(Refusal),
 }
 
-// What the pairs of some trains say, with the divisions that they took.
+// The first pair that collides, with the divisions of the pairs up to and including it.
 #[derive(Clone, Copy)]
-enum Found {
-    Free(u32),
-    Meets(usize, usize, u32),
+struct Collision {
+    first: usize,
+    second: usize,
+    divisions: u32,
 }
 
-// The pairs in the order (0,1), (0,2) .. (1,2) .., up to and including the first that collides.
-fn scan(trains: [Train; Table::CAPACITY], count: usize) -> Found
-    requires { Scannable trains count }
-    ensures { result ≡ scan (train_at trains) (pairs count) 0 }
+// The pairs of one train with those behind it, up to and including the first that collides. Their divisions are added to
+// those of the pairs before.
+#[tactic(auto, using(crate::proofs::Walk::behind_ways))]
+fn scan_behind(trains: &[Train], first: usize, before: u32) -> Result<u32, Collision>
+    requires { Begun trains.now first before }
+    ensures answer { result ≡ scan (train_at trains.now) (pairs_behind first (length trains.now)) before }
+    ensures few { IfOk result (λ divisions. divisions ≤ before + 33 * capacity) }
 {
-    let mut first: usize = 0;
-    let mut second: usize = 1;
-    let mut divisions: u32 = 0;
-    while second < count {
+    let mut divisions = before;
+    for second in first + 1..trains.len() {
         let pair = train::compare(trains[first], trains[second]);
-        let counted = divisions + pair.divisions;
+        divisions += pair.divisions;
         if !pair.free {
-            return Found::Meets(first, second, counted);
-        }
-        divisions = counted;
-        second += 1;
-        if second == count {
-            first += 1;
-            second = first + 1;
+            return Err(Collision {
+                first,
+                second,
+                divisions,
+            });
         }
     }
-    Found::Free(divisions)
+    Ok(divisions)
 }
 
-// The earliest tick of two trains. It is asked for a pair that collides, which has one; 0 stands for none.
-fn tick(a: Train, b: Train) -> u64
-    ensures { result ≡ tick_of (earliest a b) }
+// The pairs in the order (0,1), (0,2) .. (1,2) .., up to and including the first that collides; or the divisions of all.
+#[tactic(auto, using(crate::proofs::Walk::walk_ways))]
+fn scan(trains: &[Train]) -> Result<u32, Collision>
+    requires { Scannable trains.now }
+    ensures { result ≡ scan (train_at trains.now) (pairs (length trains.now)) 0 }
 {
-    let common = train::earliest(a, b);
-    match common {
-        CommonTick::At(tick) => tick,
-        CommonTick::Never => 0,
+    let mut divisions = 0;
+    for first in 0..trains.len() {
+        divisions = scan_behind(trains, first, divisions)?;
+    }
+    Ok(divisions)
+}
+
+// The verdict on the trains of a table. Only the pair that is shown is searched for its earliest tick, and it has one, since
+// it collides.
+#[tactic(auto, using(crate::proofs::Verdicts::judge_ways))]
+fn judge_trains(trains: &[Train], multiple: u32) -> Verdict
+    requires { Scannable trains.now }
+    ensures { result ≡ judged (Ok tt) multiple trains.now }
+{
+    match scan(trains) {
+        Ok(divisions) => Verdict::Accepted(Figures {
+            multiple,
+            divisions,
+        }),
+        Err(pair) => {
+            let meeting = Meeting {
+                first: pair.first,
+                second: pair.second,
+                tick: train::earliest(trains[pair.first], trains[pair.second]).unwrap(),
+            };
+            let figures = Figures {
+                multiple,
+                divisions: pair.divisions,
+            };
+            Verdict::Collide(meeting, figures)
+        }
     }
 }
 
-// The verdict on a row. Only the pair that is shown is searched for its earliest tick.
+// The verdict on a row: its refusal, or the verdict on its trains.
+#[tactic(auto, using(crate::proofs::Verdicts::read_ways))]
 pub fn judge(row: &[u32]) -> Verdict
     ensures { result ≡ verdict row.now }
 {
-    let reading = table::read(row);
-    let outcome = reading.outcome;
-    match outcome {
-        Outcome::Refused(refusal) => return Verdict::Refused(refusal),
-        Outcome::Passed => {}
-    }
-    let trains = reading.table.trains;
-    let multiple = reading.table.tick.denominator;
-    let found = scan(trains, reading.table.count);
-    match found {
-        Found::Free(divisions) => Verdict::Accepted(Figures {
-            multiple: multiple,
-            divisions: divisions,
-        }),
-        Found::Meets(first, second, divisions) => Verdict::Collide(
-            Meeting {
-                first: first,
-                second: second,
-                tick: tick(trains[first], trains[second]),
-            },
-            Figures {
-                multiple: multiple,
-                divisions: divisions,
-            },
-        ),
+    match table::read(row) {
+        Ok(table) => judge_trains(&table.trains[..table.count], table.tick.denominator),
+        Err(refusal) => Verdict::Refused(refusal),
     }
 }

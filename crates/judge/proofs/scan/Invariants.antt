@@ -1,11 +1,7 @@
--- The loop's invariant in `scan`: the walk stands at a pair, all pairs before it are free, and what there is to find from
--- the first pair on is what there is to find from here on. The measure is the pairs that are left.
-use lib.ListN.{length}
-use Rattle.judge.proofs.Walk.{rest, Walking}
+-- The loop's invariant in `scan`: all pairs before those of `first` are free, and what there is to find from the first pair on
+-- is what there is to find from here on.
+use Rattle.judge.proofs.Walk.{Walking}
 use Rattle.judge.proofs.scan.Given as goal
 
-abbrev pub invariant-loop-second : goal.invariant-loop-second
-invariant-loop-second l = Walking l.trains l.count l.first l.second l.divisions
-
-abbrev pub decreases-loop-second : goal.decreases-loop-second
-decreases-loop-second l = length (rest l.count l.first l.second)
+abbrev pub invariant-loop-first : goal.invariant-loop-first
+invariant-loop-first l = Walking l.trains l.first l.divisions
