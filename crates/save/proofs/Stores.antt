@@ -1,11 +1,11 @@
 -- What the stores of the private functions write, on plain values.
--- Core: over_mid, that what was written to a part is a write over the whole. The rest puts writes together.
+-- Core: save_writes, whole_part.
 -- Assumes nothing.
 use Prim.Native.Nat.{ℕ, ◌+◌, ◌-◌, ◌*◌, ◌/◌}
 use mathlib.Core.Path.{◌≡◌, sym, ap, ◌∙◌}
 use mathlib.Core.List.{List, ◌++◌, append_assoc, append-nil, map, flat_map}
 use native.Mathlib.Omega.{arith}
-use lib.ListN.{length, take, drop, length-map}
+use lib.ListN.{length, drop, length-map}
 use lib.Seq.{drop-drop, drop-length}
 use borrow.Rule.Slice.PartMut.{put_mid}
 use Rattle.std.specs.Prelude.{Ok}
@@ -16,16 +16,6 @@ use Rattle.table.specs.Row.{numbers, record_length, entries, lowest_entry}
 use Rattle.table.proofs.Entries.{entries_length}
 use Rattle.stored.specs.Layout.{head_length, record_of, head_of, bytes_of}
 use Rattle.stored.specs.Answer.{saved_in}
-
--- ---- Core laws
-
-pub over_mid : (a k : ℕ) (xs ys : List ℕ) → length ys ≡ k → put_mid a k xs ys ≡ over xs a ys
-unfolding over
-over_mid a k xs ys e =
-    sym (append_assoc (take a xs) ys (drop k (drop a xs)))
-    ∙ ap (λ (l : List ℕ). take a xs ++ ys ++ l) (drop-drop k a xs ∙ ap (λ (n : ℕ). drop (a + n) xs) (sym e))
-
--- ---- Derived
 
 -- head and records are the whole layout, at the front of the buffer
 pub save_writes :

@@ -12,7 +12,7 @@ ghost use Rattle.stored.specs.Answer.{saved, saved_in};
 use fraction::Fraction;
 use refusal::Refusal;
 use stored::{HEAD_LENGTH, LONGEST, MARK, VERSION};
-use table::{Entry, Outcome, Table};
+use table::{Entry, Table};
 
 // Writes a time in lowest terms to its eight bytes.
 fn put_time(out: &mut [u8], time: Fraction)
@@ -59,16 +59,13 @@ fn put_records(row: &[u32], out: &mut [u8])
 
 // Writes a row as a stored table to the front of `out`, in lowest terms, colliding or not, and answers how many bytes it
 // has; what follows them is kept. Refusals: 1; then train by train 2, 3 and 4; then 8.
+#[tactic(auto, using(table::proofs::Entries::entries_length), unfolding(stored::specs::Answer::save_check, stored::specs::Answer::saved_in))]
 pub fn save(row: &[u32], out: &mut [u8]) -> Result<usize, Refusal>
     ensures answer { result ≡ saved row.now (length out.old) }
     ensures bytes { out.new ≡ saved_in result row.now out.old }
     ensures constants { LONGEST ≡ longest }
 {
-    let checked = table::check(row);
-    match checked {
-        Outcome::Refused(refusal) => return Err(refusal),
-        Outcome::Passed => {}
-    }
+    table::check(row)?;
     let count = row.len() / Table::NUMBERS;
     let end = HEAD_LENGTH + count * Table::RECORD_LENGTH;
     if out.len() < end {

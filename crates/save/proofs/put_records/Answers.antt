@@ -3,13 +3,13 @@ use mathlib.Core.Path.{refl, sym, ap, ◌∙◌}
 use mathlib.Core.List.{map}
 use native.Mathlib.Omega.{arith}
 use lib.ListN.{length-map}
-use Rattle.lent.specs.Lent.{over}
+use Rattle.lent.proofs.Over.{over_slice}
 use Rattle.lent.proofs.Records.{flat_length, writing_begins, writing_on, writing_ends}
 use Rattle.table.specs.Row.{record_length, entries, no_entry, lowest_entry}
 use Rattle.table.proofs.Entries.{entries_length}
 use Rattle.table.proofs.Rows.{lowest_in, lowest_out, lowest_at}
 use Rattle.stored.specs.Layout.{record_of}
-use Rattle.save.proofs.Stores.{over_mid, whole_part}
+use Rattle.save.proofs.Stores.{whole_part}
 use Rattle.save.proofs.put_records.Goals as goal
 
 pub loop-position-init : goal.loop-position-init
@@ -24,7 +24,7 @@ loop-position-preserved c =
     let given = c.args.row.now in
     writing_on _ _ _ _ 0 _ _ _ _ _ _ no_entry (lowest_in given _ c.loop-position-test.true) (omega arith) (omega arith)
     (ap lowest_entry c.at.ensures ∙ sym (lowest_at (entries given) c.loop-position.position)) c.loop-position.invariant
-    (over_mid _ _ _ _ (omega arith) ∙ ap (over _ _) c.put_record.ensures)
+    (over_slice _ _ _ _ _ c.put_record.ensures (omega arith))
 
 pub returns : goal.returns
 returns c =
