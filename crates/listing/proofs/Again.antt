@@ -10,6 +10,7 @@ use native.Mathlib.Omega.{arith}
 use lib.Dec.{eqb, ltb}
 use lib.ListN.{length, take, drop, length-map}
 use lib.Seq.{take_at}
+use Rattle.std.specs.Prelude.{Ok}
 use Rattle.refusal.specs.declared.Refusal.TheVariants.{TrainCount}
 use Rattle.refusal.specs.Paper.{answers}
 use Rattle.refusal.specs.Order.{None}
@@ -17,7 +18,6 @@ use Rattle.refusal.proofs.Orders.{none_of_both}
 use Rattle.fraction.specs.declared.Fraction.{Fraction}
 use Rattle.fraction.proofs.Lowest.{lowest_twice}
 use Rattle.table.specs.declared.Entry.{Entry}
-use Rattle.table.specs.declared.Outcome.TheVariants as outcomes
 use Rattle.table.specs.Row.{Words, numbers, longest_row, entries, row_of, lowest_entry, lowest_row}
 use Rattle.table.specs.Given.{checked_order}
 use Rattle.table.specs.Answer.{test, or_else, first_refusal, entry_check, checked}
@@ -91,7 +91,7 @@ import_after_export row out before n words e room =
     ap (take n) (export_written row out n e) ∙ take_at (text_of es) (drop n out) n (sym x.count) in
     let short : length (text_of es) ≤ longest_text = omega (arith, row_within row words x.passes) in
     let lists : Listing (text_of es) es = text_lists es (row_sayable row words x.passes) in
-    let passes : checked (row_of es) ≡ outcomes.Passed =
+    let passes : checked (row_of es) ≡ Ok tt =
     checked_lowest row (dvd_of_mod-eq-zero numbers (checked_whole row x.passes)) ∙ x.passes in
     let none : None (table_order es (length before)) =
     (none_of_both (checked_order (row_of es)) _).1 ((checked_follows (row_of es)).passed.0 passes, ((λ l. omega arith), tt)) in
@@ -115,7 +115,7 @@ record Importing (text : List ℕ) (room k : ℕ) : Type 0 where
   lists : Listing text trains
   none : None (table_order trains room)
   count : k ≡ length trains
-  passes : checked (row_of (map lowest_entry trains)) ≡ outcomes.Passed
+  passes : checked (row_of (map lowest_entry trains)) ≡ Ok tt
   fits : length trains * numbers ≤ room
   words : Words (row_of (map lowest_entry trains))
 
@@ -162,7 +162,7 @@ import_again text before out k e long =
     let n : ℕ = length (text_of (map lowest_entry (entries row))) in
     let wrote : paper_exported (exported row (length out)) ≡ answers n =
     ap paper_exported
-    (sym (way_written row (length out) outcomes.Passed (sym x.passes) refl (omega (arith, row_within row x.words x.passes)))) in
+    (sym (way_written row (length out) (Ok tt) (sym x.passes) refl (omega (arith, row_within row x.words x.passes)))) in
     let trip = import_after_export row out before n x.words wrote (omega (arith, x.fits)) in
     let again : lowest_row row ++ drop (length (entries row) * numbers) before ≡ row_after text before =
     ap (λ (fs : List Entry). row_of fs ++ drop (length (entries row) * numbers) before) (ap (map lowest_entry) same ∙ lowest_again x.trains)

@@ -22,11 +22,9 @@ use Rattle.fraction.specs.declared.Fraction.{Fraction}
 use Rattle.fraction.specs.Answer.{lowest}
 use Rattle.fraction.proofs.Lowest.{lowest_terms, lowest_within, lowest_already}
 use Rattle.table.specs.declared.Entry.{Entry}
-use Rattle.table.specs.declared.Outcome.{Outcome}
-use Rattle.table.specs.declared.Outcome.TheVariants as outcomes
 use Rattle.table.specs.Row.{Words, capacity, numbers, entries, no_entry, row_of, lowest_entry, lowest_row, SameRow}
 use Rattle.table.specs.Given.{checked_order}
-use Rattle.table.specs.Answer.{test, or_else, first_refusal, no_denominator, no_time, entry_check, checked}
+use Rattle.table.specs.Answer.{Outcome, test, or_else, first_refusal, no_denominator, no_time, entry_check, checked}
 use Rattle.table.proofs.Entries.{entries_length, entries_at, entries_few}
 use Rattle.table.proofs.Checks.{checked_trains}
 use Rattle.table.proofs.InOrder.{ltb_is, Follows, follows_then, follows_last}
@@ -39,7 +37,7 @@ use Rattle.listing.specs.Means.{fraction, entry}
 use Rattle.listing.specs.Layout.{time_text, record_text, text_of, longest_export, Small, SmallEntry, HasDenominators}
 use Rattle.listing.specs.Given.{export_order}
 use Rattle.listing.specs.Paper.{paper_exported}
-use Rattle.listing.specs.Answer.{export_check, answer_after, exported, exported_in, buffer_after}
+use Rattle.listing.specs.Answer.{export_check, exported, exported_in, buffer_after}
 use Rattle.listing.proofs.Answered.{answer_tells, answer_is, answer_gives, answer_passes}
 use Rattle.listing.proofs.Layouts.{Sayable, text_within, text_same}
 
@@ -96,19 +94,19 @@ module _ (row : List ℕ) (room : ℕ) (o : Outcome) (o_is : o ≡ checked row) 
   -- the answer, from the outcome of the row's checks
   abbrev answer : Outcome → Result ℕ Refusal
   answer p =
-      answer_after (or_else p (test (ltb room (length (text_of (map lowest_entry (entries row))))) BufferTooShort))
-      (length (text_of (map lowest_entry (entries row))))
+      or_else (or_else p (test (ltb room (length (text_of (map lowest_entry (entries row))))) BufferTooShort))
+      (Ok (length (text_of (map lowest_entry (entries row)))))
 
   from_checks : answer o ≡ exported row room
   unfolding export_check
   from_checks = ap answer o_is
 
-  pub way_checked : (r : Refusal) → o ≡ outcomes.Refused r → Err r ≡ exported row room
+  pub way_checked : (r : Refusal) → o ≡ Err r → Err r ≡ exported row room
   way_checked r h = sym (ap answer h) ∙ from_checks
 
-  module _ (passed : o ≡ outcomes.Passed) where
+  module _ (passed : o ≡ Ok tt) where
     -- past the checks there is only the room to be looked at
-    room_left : answer outcomes.Passed ≡ exported row room
+    room_left : answer (Ok tt) ≡ exported row room
     room_left = sym (ap answer passed) ∙ from_checks
 
     pub way_short : room < length (text_of (map lowest_entry (entries row))) → Err BufferTooShort ≡ exported row room
@@ -123,7 +121,7 @@ module _ (row : List ℕ) (room : ℕ) (o : Outcome) (o_is : o ≡ checked row) 
 
 -- It passes the checks, and the answer is the length of its text.
 pub record Exporting (row : List ℕ) (room n : ℕ) : Type 0 where
-  pub passes : checked row ≡ outcomes.Passed
+  pub passes : checked row ≡ Ok tt
   pub count : n ≡ length (text_of (map lowest_entry (entries row)))
 
 pub exporting : (row : List ℕ) (room n : ℕ) → paper_exported (exported row room) ≡ answers n → Exporting row room n
@@ -171,7 +169,7 @@ row_small row words i h =
     at = i * numbers
 
 -- in lowest terms they can be written
-pub row_sayable : (row : List ℕ) → Words row → checked row ≡ outcomes.Passed → Sayable (map lowest_entry (entries row))
+pub row_sayable : (row : List ℕ) → Words row → checked row ≡ Ok tt → Sayable (map lowest_entry (entries row))
 row_sayable row words passes =
     lowest_all (entries row)
     (λ i h.
@@ -180,7 +178,7 @@ row_sayable row words passes =
 
 -- and their text is not too long
 pub row_within :
-    (row : List ℕ) → Words row → checked row ≡ outcomes.Passed → length (text_of (map lowest_entry (entries row))) ≤ longest_export
+    (row : List ℕ) → Words row → checked row ≡ Ok tt → length (text_of (map lowest_entry (entries row))) ≤ longest_export
 row_within row words passes =
     let es : List Entry = map lowest_entry (entries row) in
     omega (
@@ -204,7 +202,7 @@ exported_verdict row room n e = sym (verdict_same row (lowest_row row) (exported
 -- ---- The longest text is reached
 
 -- trains that are alike pass where one does, at any position
-alike_pass : (n i : ℕ) (e : Entry) → ((k : ℕ) → entry_check k e ≡ outcomes.Passed) → first_refusal entry_check i (replicate n e) ≡ outcomes.Passed
+alike_pass : (n i : ℕ) (e : Entry) → ((k : ℕ) → entry_check k e ≡ Ok tt) → first_refusal entry_check i (replicate n e) ≡ Ok tt
 unfolding first_refusal
 alike_pass zero i e each = refl
 alike_pass (suc n) i e each = rw (each i) (alike_pass n (suc i) e each)
@@ -214,11 +212,11 @@ alike_lowest zero e already = refl
 alike_lowest (suc n) e already = λ i. already i ∷ alike_lowest n e already i
 
 -- so many trains that are alike, in lowest terms
-module _ (n : ℕ) (e : Entry) (few : n ≤ capacity) (each : (k : ℕ) → entry_check k e ≡ outcomes.Passed) (already : lowest_entry e ≡ e) where
+module _ (n : ℕ) (e : Entry) (few : n ≤ capacity) (each : (k : ℕ) → entry_check k e ≡ Ok tt) (already : lowest_entry e ≡ e) where
   alike_text : text_of (map lowest_entry (entries (row_of (replicate n e)))) ≡ text_of (replicate n e)
   alike_text = ap text_of (ap (map lowest_entry) (row_entries (replicate n e)) ∙ alike_lowest n e already)
 
-  alike_checked : checked (row_of (replicate n e)) ≡ outcomes.Passed
+  alike_checked : checked (row_of (replicate n e)) ≡ Ok tt
   alike_checked =
       let long = row_length (replicate n e) in
       sym (checked_trains (row_of (replicate n e)) (omega (arith, long)) (omega (arith, long, length-replicate n e)))
@@ -231,7 +229,7 @@ module _ (n : ℕ) (e : Entry) (few : n ≤ capacity) (each : (k : ℕ) → entr
       let long : length (text_of (map lowest_entry (entries (row_of (replicate n e))))) ≡ 23 + n * length (record_text e) =
       ap length alike_text ∙ text_same n e in
       ap paper_exported
-      (sym (way_written (row_of (replicate n e)) _ outcomes.Passed (sym alike_checked) refl (omega arith)) ∙ ap Ok long)
+      (sym (way_written (row_of (replicate n e)) _ (Ok tt) (sym alike_checked) refl (omega arith)) ∙ ap Ok long)
 
 -- A time of ten digits above and below.
 abbrev widest : Fraction

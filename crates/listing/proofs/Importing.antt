@@ -11,7 +11,7 @@ use native.Mathlib.Omega.{arith}
 use lib.Dec.{ltb}
 use lib.ListN.{length, get_or, drop}
 use borrow.Author.Tests.{lt-ltb, le-ltb, ltb-true, ltb-false}
-use Rattle.std.specs.Prelude.{Result, Err}
+use Rattle.std.specs.Prelude.{Result, Ok, Err}
 use Rattle.refusal.specs.declared.Refusal.{Refusal}
 use Rattle.refusal.specs.declared.Refusal.TheVariants.{TrainCount, ZeroTime, DurationAbovePeriod, TextTooLong, BufferTooShort, BadRecord}
 use Rattle.refusal.specs.Paper.{Printed, paper, Said, answers, refuse}
@@ -22,7 +22,7 @@ use Rattle.fraction.specs.declared.Fraction.{Fraction}
 use Rattle.table.specs.declared.Entry.{Entry}
 use Rattle.table.specs.Row.{capacity, numbers, no_entry, row_of, lowest_entry, SameRow}
 use Rattle.table.specs.Given.{NoDenominator, train_checks, checked_order}
-use Rattle.table.specs.Answer.{checked}
+use Rattle.table.specs.Answer.{or_else, checked}
 use Rattle.table.proofs.InOrder.{ltb_is, Follows, follows_then, follows_last}
 use Rattle.table.proofs.Following.{checked_follows}
 use Rattle.table.proofs.Numbers.{checked_in_order}
@@ -35,7 +35,7 @@ use Rattle.listing.specs.Layout.{longest_text, Small, SmallEntry, HasDenominator
 use Rattle.listing.specs.Given.{table_order, ImportRefuses, too_long}
 use Rattle.listing.specs.Paper.{paper_imported}
 use Rattle.listing.specs.Answer.{Listed, bad, trains, listed, trains_of}
-use Rattle.listing.specs.Answer.{table_check, answer_after, imported_of, imported, imported_in, row_after}
+use Rattle.listing.specs.Answer.{table_check, imported_of, imported, imported_in, row_after}
 use Rattle.listing.proofs.Answered.{answer_tells, answer_is, answer_gives, answer_passes}
 use Rattle.listing.proofs.Texts.{never, trains_are, bad_is, read_listed, listing_read, read_bad, bad_read}
 use Rattle.listing.proofs.Unique.{files_one}
@@ -113,7 +113,7 @@ table_follows es room =
 module _ (es : List Entry) (room : ℕ) where
   -- what is answered of trains
   abbrev of_trains : Result ℕ Refusal
-  of_trains = answer_after (table_check es room) (length es)
+  of_trains = or_else (table_check es room) (Ok (length es))
 
   trains_refused : (number place : ℕ) → (paper_imported of_trains ≡ refuse number place) ↔ Gives (table_order es room) number place
   trains_refused = answer_gives (table_check es room) (table_order es room) (table_follows es room) _

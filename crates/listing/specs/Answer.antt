@@ -14,7 +14,6 @@
 --     listed l                          what a text lists
 --     trains_of x                       the trains that are listed
 --     table_check es room               refusals 1 to 4 and 8 of the trains of a listing
---     answer_after o n                  an answer: the number, or the refusal that there is
 --     imported_of room x                the answer for what a text lists
 --     imported text room                what `import` answers
 --     imported_in answer text before    what it leaves in the row
@@ -30,10 +29,8 @@ use Rattle.lent.specs.Words.{begins_with}
 use Rattle.decimal.specs.Answer.{Found, nothing, found, number_in}
 use Rattle.fraction.specs.declared.Fraction.{Fraction}
 use Rattle.table.specs.declared.Entry.{Entry}
-use Rattle.table.specs.declared.Outcome.{Outcome}
-use Rattle.table.specs.declared.Outcome.TheVariants as outcomes
 use Rattle.table.specs.Row.{numbers, entries, row_of, lowest_entry}
-use Rattle.table.specs.Answer.{test, or_else, checked}
+use Rattle.table.specs.Answer.{Outcome, test, or_else, checked}
 use Rattle.listing.specs.Grammar.{quote, comma, return, newline}
 use Rattle.listing.specs.Means.{slash, fraction, blank_phase, entry, phase_word, period_word, duration_word}
 use Rattle.listing.specs.Layout.{text_of, longest_text}
@@ -134,15 +131,10 @@ trains_of (trains es) = es
 unfoldable pub table_check : (es : List Entry) (room : ℕ) → Outcome
 table_check es room = or_else (checked (row_of es)) (test (ltb room (length es * numbers)) BufferTooShort)
 
--- Where the checks pass the number, and else the refusal.
-abbrev pub answer_after : Outcome → ℕ → Result ℕ Refusal
-answer_after outcomes.Passed n = Ok n
-answer_after (outcomes.Refused r) n = Err r
-
 -- The first bad record, or what there is to say of the trains.
 abbrev pub imported_of : (room : ℕ) → Listed → Result ℕ Refusal
 imported_of room (bad k) = Err (BadRecord k)
-imported_of room (trains es) = answer_after (table_check es room) (length es)
+imported_of room (trains es) = or_else (table_check es room) (Ok (length es))
 
 -- What `import` answers for a text and a row of that length.
 unfoldable pub imported : (text : List ℕ) (room : ℕ) → Result ℕ Refusal
@@ -166,7 +158,7 @@ export_check row room =
 
 -- What `export` answers for a row and a buffer of that length.
 abbrev pub exported : (row : List ℕ) (room : ℕ) → Result ℕ Refusal
-exported row room = answer_after (export_check row room) (length (text_of (map lowest_entry (entries row))))
+exported row room = or_else (export_check row room) (Ok (length (text_of (map lowest_entry (entries row)))))
 
 -- After a length the buffer has the text of the trains in lowest terms and then what it had; after a refusal all that it had.
 unfoldable pub exported_in : Result ℕ Refusal → (row before : List ℕ) → List ℕ
