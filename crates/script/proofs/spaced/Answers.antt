@@ -27,4 +27,4 @@ returns c =
     spaced_is _ _ (Some c.in_ok-number.number)
     (strip_prefix_is Decides-eqb c.args.text.now (space ∷ []) (Some c.in_ok-digits.digits) c.in_ok-digits.ensures.cases)
     c.in_ok-number.ensures
-    ∙ ap (found c.in_ok-number.number.value) (sym (between_to_end _ _ _ (le_refl _)))
+    ∙ ap (found c.in_ok-number.number.value) (sym (between_to_end c.in_ok-digits.digits.now c.in_ok-number.number.end _ (le_refl _)))
