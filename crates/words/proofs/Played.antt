@@ -1,23 +1,19 @@
 -- A list of calls on words: after each call the words stand for the record after it, so the log is the record's.
 -- Core: admit_stands, withdraw_stands, step_stands. The rest follows from these.
 -- Assumes nothing.
-use Rattle.std.proofs.Common.{◌≡◌, ℕ, ◌-◌, ◌*◌, ◌<◌, ◌≤◌, Bool, true, false, ltb, List, [], ◌∷◌, length, get_or, set, sym, refl, ap, ◌∙◌, subst, arith, ltb-false, ltb-true}
+use Rattle.std.proofs.Common.{◌≡◌, ℕ, ◌-◌, ◌*◌, ◌<◌, ◌≤◌, Bool, true, false, ltb, List, [], ◌∷◌, length, get_or, set, sym, refl, ap, ◌∙◌, subst, ltb-false, ltb-true}
 use lib.Seq.{length-sets}
+use Rattle.std.specs.Prelude.{Result, Ok, Err, ⊤}
+use Rattle.refusal.specs.declared.Refusal.{Refusal}
 use Rattle.train.specs.declared.Train.{Train}
 use Rattle.train.specs.Answer.{within_limits}
 use Rattle.dispatcher.specs.declared.Place.{Place}
 use Rattle.dispatcher.specs.declared.Run.{Run}
 use Rattle.dispatcher.specs.declared.Dispatcher.{Dispatcher}
 use Rattle.dispatcher.specs.declared.Sought.TheVariants as sought
-use Rattle.dispatcher.specs.declared.Admission.{Admission}
-use Rattle.dispatcher.specs.declared.Admission.TheVariants as admissions
-use Rattle.dispatcher.specs.declared.Admitted.{Admitted}
-use Rattle.dispatcher.specs.declared.Withdrawal.{Withdrawal}
-use Rattle.dispatcher.specs.declared.Withdrawal.TheVariants as withdrawals
-use Rattle.dispatcher.specs.declared.Withdrew.{Withdrew}
+use Rattle.dispatcher.specs.declared.Called.{Called}
 use Rattle.dispatcher.specs.declared.Tick.{Tick}
 use Rattle.dispatcher.specs.declared.Tick.TheVariants as tick
-use Rattle.dispatcher.specs.declared.Stepped.{Stepped}
 use Rattle.dispatcher.specs.Calls.{Call, admit, withdraw, step, Event, refused}
 use Rattle.dispatcher.specs.History.{place_count}
 use Rattle.dispatcher.specs.Answer.{is_sought, lowest, empty_place, held_at, fresh, next_count, is_next, put, place_for, admission, ended, withdrawal, started_place, starting, stepping}
@@ -26,9 +22,7 @@ use Rattle.dispatcher.proofs.Answers.{admission_not_a_train, admission_no_place,
 use Rattle.words.specs.Record.{place_length, last_at, word_count, place_in, places_from, places_in, record_in, place_words, tail_words, place_over}
 use Rattle.words.specs.Answer.{fresh_in, at_place, both_over, admitted_by, withdrew_by, stepped_by, admitted_in, withdrew_in, stepped_in}
 use Rattle.words.specs.Played.{words_after, log_in}
-use Rattle.words.proofs.Standing.{places_length, record_place, place_over_length, record_tail}
-use Rattle.words.proofs.Stores.{fresh_words}
-use Rattle.words.proofs.Ways.{set_place}
+use Rattle.words.proofs.Standing.{places_length, record_place, place_over_length, record_tail, set_place, fresh_words}
 
 module _ (ws : List ℕ) (all : length ws ≡ word_count) where
   -- ---- What is written, as a record
@@ -53,7 +47,7 @@ module _ (ws : List ℕ) (all : length ws ≡ word_count) where
 
   -- ---- Each call: its words stand for its record
 
-  abbrev AdmitStands : Admitted → Type 0
+  abbrev AdmitStands : Called (Result ℕ Refusal) → Type 0
   AdmitStands a = record_in (admitted_in a ws) ≡ a.dispatcher
 
   pub admit_stands : (train : Train) → AdmitStands (admission (record_in ws) train)
@@ -68,7 +62,7 @@ module _ (ws : List ℕ) (all : length ws ≡ word_count) where
       met : ℕ
       met = lowest (is_sought (sought.Colliding (next_count d) train)) d.places
 
-      way : (a : Admitted) → admission d train ≡ a → AdmitStands a → AdmitStands (admission d train)
+      way : (a : Called (Result ℕ Refusal)) → admission d train ≡ a → AdmitStands a → AdmitStands (admission d train)
       way a e so = subst AdmitStands (sym e) so
 
       free : within_limits train ≡ true → empty < place_count → (b : Bool) → ltb met place_count ≡ b → AdmitStands (admission d train)
@@ -84,7 +78,7 @@ module _ (ws : List ℕ) (all : length ws ≡ word_count) where
       limits true l = room l (ltb empty place_count) refl
       limits false l = way _ (admission_not_a_train d train l) refl
 
-  abbrev WithdrawStands : ℕ → Withdrew → Type 0
+  abbrev WithdrawStands : ℕ → Called (Result ⊤ Refusal) → Type 0
   WithdrawStands q w = record_in (withdrew_in q w ws) ≡ w.dispatcher
 
   pub withdraw_stands : (q : ℕ) → WithdrawStands q (withdrawal (record_in ws) q)
@@ -93,7 +87,7 @@ module _ (ws : List ℕ) (all : length ws ≡ word_count) where
       d : Dispatcher
       d = record_in ws
 
-      way : (w : Withdrew) → withdrawal d q ≡ w → WithdrawStands q w → WithdrawStands q (withdrawal d q)
+      way : (w : Called (Result ⊤ Refusal)) → withdrawal d q ≡ w → WithdrawStands q w → WithdrawStands q (withdrawal d q)
       way w e so = subst (WithdrawStands q) (sym e) so
 
       held : q < place_count → (b : Bool) → is_sought sought.Empty (held_at d q) ≡ b → WithdrawStands q (withdrawal d q)
@@ -104,7 +98,7 @@ module _ (ws : List ℕ) (all : length ws ≡ word_count) where
       inside true e = held (ltb-true q place_count e) (is_sought sought.Empty (held_at d q)) refl
       inside false e = way _ (withdrawal_outside d q (places_length ws 0 place_count) (ltb-false q place_count e)) refl
 
-  abbrev StepStands : Stepped → Type 0
+  abbrev StepStands : Called (Result Tick Refusal) → Type 0
   StepStands s = record_in (stepped_in s ws) ≡ s.dispatcher
 
   pub step_stands : (count : ℕ) → StepStands (stepping (record_in ws) count)
@@ -116,13 +110,13 @@ module _ (ws : List ℕ) (all : length ws ≡ word_count) where
       due : ℕ
       due = lowest (is_sought (sought.Due count)) d.places
 
-      way : (s : Stepped) → stepping d count ≡ s → StepStands s → StepStands (stepping d count)
+      way : (s : Called (Result Tick Refusal)) → stepping d count ≡ s → StepStands s → StepStands (stepping d count)
       way s e so = subst StepStands (sym e) so
 
       starts : is_next d count ≡ true → d.run.left ≤ 0 → (b : Bool) → ltb due place_count ≡ b → StepStands (stepping d count)
       starts r n true e =
           let h = ltb-true due place_count e in
-          let next : Stepped = starting (record { places = d.places; last = count; run = d.run }) due in
+          let next : Called (Result Tick Refusal) = starting (record { places = d.places; last = count; run = d.run }) due in
           way next (stepping_starts d count r n h)
           (both_stands due count (started_place (get_or d.places due empty_place)) next.dispatcher.run h)
       starts r n false e =
@@ -151,30 +145,30 @@ module _ (ws : List ℕ) (all : length ws ≡ word_count) where
   unfolding words_after
   call_length (admit delay period duration) = after admitted.answer
     where
-      admitted : Admitted
+      admitted : Called (Result ℕ Refusal)
       admitted = admission (record_in ws) (record { phase = delay; period = period; duration = duration })
 
-      after : (a : Admission) → length (admitted_by a admitted.dispatcher ws) ≡ word_count
-      after (admissions.At q) = length-sets ws (q * place_length) (place_words (at_place admitted.dispatcher q)) ∙ all
-      after (admissions.Refused r) = all
+      after : (a : Result ℕ Refusal) → length (admitted_by a admitted.dispatcher ws) ≡ word_count
+      after (Ok q) = length-sets ws (q * place_length) (place_words (at_place admitted.dispatcher q)) ∙ all
+      after (Err r) = all
   call_length (withdraw q) = after withdrew.answer
     where
-      withdrew : Withdrew
+      withdrew : Called (Result ⊤ Refusal)
       withdrew = withdrawal (record_in ws) q
 
-      after : (a : Withdrawal) → length (withdrew_by a q withdrew.dispatcher ws) ≡ word_count
-      after withdrawals.Withdrawn = both_length q withdrew.dispatcher
-      after (withdrawals.Refused r) = all
+      after : (a : Result ⊤ Refusal) → length (withdrew_by a q withdrew.dispatcher ws) ≡ word_count
+      after (Ok tt) = both_length q withdrew.dispatcher
+      after (Err r) = all
   call_length (step count) = after stepped.answer
     where
-      stepped : Stepped
+      stepped : Called (Result Tick Refusal)
       stepped = stepping (record_in ws) count
 
-      after : (a : Tick) → length (stepped_by a stepped.dispatcher ws) ≡ word_count
-      after tick.Idle = length-sets ws last_at (tail_words stepped.dispatcher) ∙ all
-      after (tick.Starts q) = both_length q stepped.dispatcher
-      after (tick.GoesOn q) = length-sets ws last_at (tail_words stepped.dispatcher) ∙ all
-      after (tick.Refused r) = all
+      after : (a : Result Tick Refusal) → length (stepped_by a stepped.dispatcher ws) ≡ word_count
+      after (Ok tick.Idle) = length-sets ws last_at (tail_words stepped.dispatcher) ∙ all
+      after (Ok (tick.Starts q)) = both_length q stepped.dispatcher
+      after (Ok (tick.GoesOn q)) = length-sets ws last_at (tail_words stepped.dispatcher) ∙ all
+      after (Err r) = all
 
 -- ---- And for any list of calls
 
@@ -205,19 +199,19 @@ unfolding event_of words_after
 refused_words ws (admit delay period duration) c number place e =
     so (admission (record_in ws) (record { phase = delay; period = period; duration = duration })).answer e
   where
-    so : (a : Admission) → admission_event delay period duration a ≡ refused c number place →
+    so : (a : Result ℕ Refusal) → admission_event delay period duration a ≡ refused c number place →
         admitted_by a (admission (record_in ws) (record { phase = delay; period = period; duration = duration })).dispatcher ws ≡ ws
-    so (admissions.At q) f = let z : ◌≡◌ {A = ℕ} 0 1 = cc in absurd (omega arith)
-    so (admissions.Refused r) f = refl
+    so (Ok q) f = cc
+    so (Err r) f = refl
 refused_words ws (withdraw q) c number place e = so (withdrawal (record_in ws) q).answer e
   where
-    so : (a : Withdrawal) → withdrawal_event q a ≡ refused c number place → withdrew_by a q (withdrawal (record_in ws) q).dispatcher ws ≡ ws
-    so withdrawals.Withdrawn f = let z : ◌≡◌ {A = ℕ} 0 1 = cc in absurd (omega arith)
-    so (withdrawals.Refused r) f = refl
+    so : (a : Result ⊤ Refusal) → withdrawal_event q a ≡ refused c number place → withdrew_by a q (withdrawal (record_in ws) q).dispatcher ws ≡ ws
+    so (Ok tt) f = cc
+    so (Err r) f = refl
 refused_words ws (step count) c number place e = so (stepping (record_in ws) count).answer e
   where
-    so : (a : Tick) → tick_event count a ≡ refused c number place → stepped_by a (stepping (record_in ws) count).dispatcher ws ≡ ws
-    so tick.Idle f = let z : ◌≡◌ {A = ℕ} 0 1 = cc in absurd (omega arith)
-    so (tick.Starts q) f = let z : ◌≡◌ {A = ℕ} 0 1 = cc in absurd (omega arith)
-    so (tick.GoesOn q) f = let z : ◌≡◌ {A = ℕ} 0 1 = cc in absurd (omega arith)
-    so (tick.Refused r) f = refl
+    so : (a : Result Tick Refusal) → tick_event count a ≡ refused c number place → stepped_by a (stepping (record_in ws) count).dispatcher ws ≡ ws
+    so (Ok tick.Idle) f = cc
+    so (Ok (tick.Starts q)) f = cc
+    so (Ok (tick.GoesOn q)) f = cc
+    so (Err r) f = refl

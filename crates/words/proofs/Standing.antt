@@ -1,18 +1,22 @@
 -- Which record words stand for, after a write: the places and what stands behind them.
 -- Core: place_there, place_read, place_kept. The rest follows from these.
 -- Assumes nothing.
-use Rattle.std.proofs.Common.{◌≡◌, ℕ, zero, suc, ◌+◌, ◌*◌, ◌<◌, ◌≤◌, Bool, true, false, cond, eqb, ltb, List, length, get_or, set, sym, refl, ap, ◌∙◌, subst, arith, length-set, get_or-set_other, get_or-set_same, ext_get_or, ltb-false, ltb-true, eqb-true}
+use Rattle.std.proofs.Common.{◌≡◌, ℕ, zero, suc, ◌+◌, ◌*◌, ◌<◌, ◌≤◌, Bool, true, false, cond, eqb, ltb, List, length, get_or, set, replicate, sym, refl, ap, ◌∙◌, subst, arith, length-set, get_or-set_other, get_or-set_same, ext_get_or, ltb-false, ltb-true, eqb-true, lt-ltb}
+use mathlib.Core.List.{flat_map}
 use lib.Seq.{length-sets}
+use Rattle.std.specs.List.{position_or_len}
+use Rattle.std.specs.Prelude.{MatchOption}
+use Rattle.std.proofs.lemmas.List.Sums.{position_or_len_is}
 use borrow.Author.Tests.{eqb-false}
 use Rattle.lent.specs.Lent.{over}
 use Rattle.lent.proofs.Over.{over_sets, over_before, over_there, over_behind}
-use Rattle.dispatcher.specs.declared.Held.{Held}
-use Rattle.dispatcher.specs.declared.Held.TheVariants.{Empty, Holds}
+use Rattle.std.specs.Prelude.{Option, Some, None}
 use Rattle.dispatcher.specs.declared.Place.{Place}
 use Rattle.dispatcher.specs.declared.Dispatcher.{Dispatcher}
 use Rattle.dispatcher.specs.History.{place_count}
-use Rattle.dispatcher.specs.Answer.{empty_place, put}
-use Rattle.words.specs.Record.{place_length, last_at, word_count, place_in, places_from, places_in, record_in, held_words, place_words, tail_words, place_over, tail_over}
+use Rattle.dispatcher.specs.Answer.{Held, lowest_place, empty_place, put}
+use Rattle.words.specs.Answer.{fresh_in}
+use Rattle.words.specs.Record.{place_length, last_at, word_count, place_in, places_from, places_in, record_in, held_words, place_words, tail_words, words_of, place_over, tail_over}
 
 -- ---- The places
 
@@ -32,29 +36,74 @@ place_there ws q (suc n) (suc i) h =
 pub place_at : (ws : List ℕ) (q : ℕ) → q < place_count → get_or (places_in ws) q empty_place ≡ place_in ws q
 place_at ws q h = place_there ws 0 place_count q h ∙ ap (place_in ws) (omega arith)
 
+-- a place that was set is what was put there
+pub set_place : (ws : List ℕ) (q : ℕ) (p : Place) → q < place_count → get_or (set (places_in ws) q p) q empty_place ≡ p
+set_place ws q p h = get_or-set_same (places_in ws) q p empty_place (omega (arith, places_length ws 0 place_count))
+
 -- what is read at a place passes a test, where the place of the record does
 pub tests_there :
     (test : Held → Bool) (ws : List ℕ) (q : ℕ) (here : Place) (b : Bool) → q < place_count → here ≡ place_in ws q → test here.held ≡ b →
     test (get_or (places_in ws) q empty_place).held ≡ b
 tests_there test ws q here b h e so = ap (λ (p : Place). test p.held) (place_at ws q h ∙ sym e) ∙ so
 
+-- the first place whose number passes is the lowest that does
+pub lowest_at :
+    (test : Held → Bool) (ws : List ℕ) (found : Option ℕ) →
+    MatchOption found ((k : ℕ) → 0 ≤ k → k < place_count → test (place_in ws k).held ≡ false)
+    (λ (q : ℕ).
+    (0 ≤ q) × (q < place_count) × (test (place_in ws q).held ≡ true)
+    × ((k : ℕ) → 0 ≤ k → k < q → test (place_in ws k).held ≡ false)) →
+    found ≡ lowest_place test (places_in ws)
+lowest_at test ws found h = by found h
+  where
+    passes : Place → Bool
+    passes place = test place.held
+
+    count : length (places_in ws) ≡ place_count
+    count = places_length ws 0 place_count
+
+    -- where the lowest place is known, and it is one or not
+    there : (q : ℕ) → q < place_count → position_or_len passes (places_in ws) ≡ q → Some q ≡ lowest_place test (places_in ws)
+    there q l e = rw e (simp (count, lt-ltb q place_count l))
+
+    nowhere : position_or_len passes (places_in ws) ≡ place_count → None ≡ lowest_place test (places_in ws)
+    nowhere e = rw e (simp count)
+
+    by :
+        (o : Option ℕ) →
+        MatchOption o ((k : ℕ) → 0 ≤ k → k < place_count → test (place_in ws k).held ≡ false)
+        (λ (q : ℕ).
+        (0 ≤ q) × (q < place_count) × (test (place_in ws q).held ≡ true)
+        × ((k : ℕ) → 0 ≤ k → k < q → test (place_in ws k).held ≡ false)) →
+        o ≡ lowest_place test (places_in ws)
+    by None none =
+        nowhere
+        (position_or_len_is passes (places_in ws) place_count empty_place (omega (arith, count))
+        (λ k l. tests_there test ws k (place_in ws k) false l refl (none k (omega arith) l))
+        (λ l. absurd (omega (arith, count))))
+    by (Some q) some =
+        there q some.1
+        (position_or_len_is passes (places_in ws) q empty_place (omega (arith, count, some.1))
+        (λ k l. tests_there test ws k (place_in ws k) false (omega (arith, some.1)) refl (some.3 k (omega arith) l))
+        (λ l. tests_there test ws q (place_in ws q) true some.1 refl some.2))
+
 -- ---- A place by its four words
 
 -- what a place is, by its words
 abbrev place_of : (flag next period duration : ℕ) → Place
 place_of flag next period duration =
-    cond (eqb flag 0) empty_place (record { held = Holds (record { next = next; period = period; duration = duration }) })
+    cond (eqb flag 0) empty_place (record { held = Some (record { next = next; period = period; duration = duration }) })
 
 -- the words of a place are read as that place
 held_read :
     (h : Held) →
     place_of (get_or (held_words h) 0 0) (get_or (held_words h) 1 0) (get_or (held_words h) 2 0) (get_or (held_words h) 3 0) ≡ record { held = h }
-held_read Empty = refl
-held_read (Holds p) = refl
+held_read None = refl
+held_read (Some p) = refl
 
-four : (h : Held) → length (held_words h) ≡ 4
-four Empty = refl
-four (Holds p) = refl
+pub four : (h : Held) → length (held_words h) ≡ 4
+four None = refl
+four (Some p) = refl
 
 -- places are equal where their words are
 same_words :
@@ -182,3 +231,15 @@ module _ (ws : List ℕ) (all : length ws ≡ word_count) where
           last = tail_read 0 (omega arith) i;
           run = record { place = tail_read 1 (omega arith) i; left = tail_read 2 (omega arith) i };
         }
+
+-- ---- A fresh start
+
+-- all words are 0 but the count
+pub fresh_words : (count : ℕ) → set (replicate word_count 0) last_at count ≡ fresh_in count
+unfolding words_of flat_map
+fresh_words count = refl
+
+-- ---- What the calls cite
+
+-- The places that the words stand for, read and set.
+pub ruleset places_read = (places_length, place_at, set_place)

@@ -9,31 +9,26 @@
 --     admitted_in a ws                        the words after an admission
 --     withdrew_in q w ws                      the words after a withdrawal from place q
 --     stepped_in s ws                         the words after a step
-use Rattle.std.specs.Prelude.{ℕ, List, slice_index_or}
+use Rattle.std.specs.Prelude.{ℕ, List, slice_index_or, Result, Ok, Err, ⊤}
+use Rattle.refusal.specs.declared.Refusal.{Refusal}
 use Rattle.dispatcher.specs.declared.Place.{Place}
 use Rattle.dispatcher.specs.declared.Dispatcher.{Dispatcher}
-use Rattle.dispatcher.specs.declared.Admission.{Admission}
-use Rattle.dispatcher.specs.declared.Admission.TheVariants as admissions
-use Rattle.dispatcher.specs.declared.Admitted.{Admitted}
-use Rattle.dispatcher.specs.declared.Withdrawal.{Withdrawal}
-use Rattle.dispatcher.specs.declared.Withdrawal.TheVariants as withdrawals
-use Rattle.dispatcher.specs.declared.Withdrew.{Withdrew}
+use Rattle.dispatcher.specs.declared.Called.{Called}
 use Rattle.dispatcher.specs.declared.Tick.{Tick}
 use Rattle.dispatcher.specs.declared.Tick.TheVariants as tick
-use Rattle.dispatcher.specs.declared.Stepped.{Stepped}
 use Rattle.dispatcher.specs.Answer.{empty_place, fresh, admission, withdrawal, stepping}
 use Rattle.words.specs.Record.{record_in, words_of, place_over, tail_over}
 
 -- What the record that the words stand for answers to an admission.
-abbrev pub admission_in : List ℕ → (delay period duration : ℕ) → Admitted
+abbrev pub admission_in : List ℕ → (delay period duration : ℕ) → Called (Result ℕ Refusal)
 admission_in ws delay period duration = admission (record_in ws) (record { phase = delay; period = period; duration = duration })
 
 -- What it answers to a withdrawal.
-abbrev pub withdrawal_in : List ℕ → ℕ → Withdrew
+abbrev pub withdrawal_in : List ℕ → ℕ → Called (Result ⊤ Refusal)
 withdrawal_in ws q = withdrawal (record_in ws) q
 
 -- What it answers to a step.
-abbrev pub stepping_in : List ℕ → ℕ → Stepped
+abbrev pub stepping_in : List ℕ → ℕ → Called (Result Tick Refusal)
 stepping_in ws count = stepping (record_in ws) count
 
 -- The words of a fresh start, whatever was there before.
@@ -49,30 +44,30 @@ abbrev pub both_over : List ℕ → ℕ → Dispatcher → List ℕ
 both_over ws q d = tail_over (place_over ws q (at_place d q)) d
 
 -- After an admission, by its answer and the record after it: the train's place is written.
-abbrev pub admitted_by : Admission → Dispatcher → List ℕ → List ℕ
-admitted_by (admissions.At q) d ws = place_over ws q (at_place d q)
-admitted_by (admissions.Refused r) d ws = ws
+abbrev pub admitted_by : Result ℕ Refusal → Dispatcher → List ℕ → List ℕ
+admitted_by (Ok q) d ws = place_over ws q (at_place d q)
+admitted_by (Err r) d ws = ws
 
 -- After a withdrawal: the place is written, and the run in progress.
-abbrev pub withdrew_by : Withdrawal → ℕ → Dispatcher → List ℕ → List ℕ
-withdrew_by withdrawals.Withdrawn q d ws = both_over ws q d
-withdrew_by (withdrawals.Refused r) q d ws = ws
+abbrev pub withdrew_by : Result ⊤ Refusal → ℕ → Dispatcher → List ℕ → List ℕ
+withdrew_by (Ok tt) q d ws = both_over ws q d
+withdrew_by (Err r) q d ws = ws
 
 -- After a step: the count and the run in progress are written, and the place of a train that starts.
-abbrev pub stepped_by : Tick → Dispatcher → List ℕ → List ℕ
-stepped_by tick.Idle d ws = tail_over ws d
-stepped_by (tick.Starts q) d ws = both_over ws q d
-stepped_by (tick.GoesOn q) d ws = tail_over ws d
-stepped_by (tick.Refused r) d ws = ws
+abbrev pub stepped_by : Result Tick Refusal → Dispatcher → List ℕ → List ℕ
+stepped_by (Ok tick.Idle) d ws = tail_over ws d
+stepped_by (Ok (tick.Starts q)) d ws = both_over ws q d
+stepped_by (Ok (tick.GoesOn q)) d ws = tail_over ws d
+stepped_by (Err r) d ws = ws
 
 -- The words after an admission.
-abbrev pub admitted_in : Admitted → List ℕ → List ℕ
+abbrev pub admitted_in : Called (Result ℕ Refusal) → List ℕ → List ℕ
 admitted_in a ws = admitted_by a.answer a.dispatcher ws
 
 -- The words after a withdrawal.
-abbrev pub withdrew_in : ℕ → Withdrew → List ℕ → List ℕ
+abbrev pub withdrew_in : ℕ → Called (Result ⊤ Refusal) → List ℕ → List ℕ
 withdrew_in q w ws = withdrew_by w.answer q w.dispatcher ws
 
 -- The words after a step.
-abbrev pub stepped_in : Stepped → List ℕ → List ℕ
+abbrev pub stepped_in : Called (Result Tick Refusal) → List ℕ → List ℕ
 stepped_in s ws = stepped_by s.answer s.dispatcher ws

@@ -3,15 +3,14 @@
 // the words of the record after it. No public call has a `requires`.
 #![tactic(auto)]
 
-ghost use Rattle.std.specs.Prelude.{◌≡◌, ◌+◌, ◌*◌, ◌<◌, ◌≤◌, [], ◌∷◌};
+ghost use Rattle.std.specs.Prelude.{◌≡◌, ◌<◌, [], ◌∷◌};
 ghost use Rattle.std.proofs.lemmas.List.Edits.{sets};
 ghost use Rattle.dispatcher.specs.History.{place_count};
-ghost use Rattle.dispatcher.specs.Answer.{is_sought, lowest};
-ghost use Rattle.words.specs.Record.{last_at, word_count, place_in, places_in, place_over};
+ghost use Rattle.dispatcher.specs.Answer.{is_sought, lowest_place};
+ghost use Rattle.words.specs.Record.{last_at, word_count, place_in, places_in, record_in, place_words, place_over};
 ghost use Rattle.words.specs.Answer.{admission_in, withdrawal_in, stepping_in, fresh_in, admitted_in, withdrew_in, stepped_in};
-ghost use Rattle.words.specs.Inside.{started_in};
 
-use dispatcher::{Admission, Dispatcher, Held, Place, Placed, Run, Sought, Tick, Withdrawal};
+use dispatcher::{Dispatcher, Place, Placed, Run, Sought, Tick};
 use refusal::Refusal;
 use train::Train;
 
@@ -30,24 +29,18 @@ const LEFT: usize = LAST + 2;
 // How many words a dispatcher has.
 pub const LENGTH: usize = LAST + 3;
 
-// A word as a place.
-fn wide(word: u32) -> usize
-    ensures { result ≡ word }
-{
-    word as usize
-}
-
 // What a place holds.
+#[tactic(auto, unfolding(crate::specs::Record::place_in))]
 fn place_at(words: &[u32; LENGTH], place: usize) -> Place
     requires { place < place_count }
     ensures { result ≡ place_in words.now place }
 {
     let at = place * PLACE;
     if words[at] == 0 {
-        return Place { held: Held::Empty };
+        return Place { held: None };
     }
     Place {
-        held: Held::Holds(Placed {
+        held: Some(Placed {
             next: words[at + 1],
             period: words[at + 2],
             duration: words[at + 3],
@@ -55,45 +48,33 @@ fn place_at(words: &[u32; LENGTH], place: usize) -> Place
     }
 }
 
-// The lowest place that is what is sought, or PLACES where none is.
-fn lowest(words: &[u32; LENGTH], sought: Sought) -> usize
-    ensures { result ≡ lowest (is_sought sought) (places_in words.now) }
+// The lowest place that is what is sought. It is inlined, so that what is sought is known in the loop of each call, and a step pays
+// for no other question.
+#[inline(always)]
+fn lowest(words: &[u32; LENGTH], sought: Sought) -> Option<usize>
+    ensures { result ≡ lowest_place (is_sought sought) (places_in words.now) }
 {
-    let mut place: usize = 0;
-    while place < Dispatcher::PLACES {
-        let here = place_at(words, place);
-        if here.is(sought) {
-            return place;
-        }
-        place += 1;
-    }
-    place
+    (0..Dispatcher::PLACES).find(|place| place_at(words, *place).is(sought))
 }
 
-// The lowest place whose train starts at this count, or PLACES where none does. It is `lowest` in a loop of its own, in which
-// what is sought is known, so that a step pays for nothing else.
-fn lowest_due(words: &[u32; LENGTH], count: u32) -> usize
-    ensures { result ≡ lowest (is_sought (Sought.Due count)) (places_in words.now) }
+// The run in progress.
+fn run_at(words: &[u32; LENGTH]) -> Run
+    ensures { result ≡ (record_in words.now).run }
 {
-    let mut place: usize = 0;
-    while place < Dispatcher::PLACES {
-        let here = place_at(words, place);
-        if here.is(Sought::Due(count)) {
-            return place;
-        }
-        place += 1;
+    Run {
+        place: words[RUNS],
+        left: words[LEFT],
     }
-    place
 }
 
-fn put_four(words: &mut [u32; LENGTH], at: usize, first: u32, second: u32, third: u32, fourth: u32)
-    requires { at + 4 ≤ word_count }
-    ensures { words.new ≡ sets words.old at (first ∷ second ∷ third ∷ fourth ∷ []) }
+// The words of a place.
+fn words_of(here: Place) -> [u32; PLACE]
+    ensures { result ≡ place_words here }
 {
-    words[at] = first;
-    words[at + 1] = second;
-    words[at + 2] = third;
-    words[at + 3] = fourth;
+    match here.held {
+        None => [0; PLACE],
+        Some(placed) => [1, placed.next, placed.period, placed.duration],
+    }
 }
 
 fn put_place(words: &mut [u32; LENGTH], place: usize, here: Place)
@@ -101,20 +82,14 @@ fn put_place(words: &mut [u32; LENGTH], place: usize, here: Place)
     ensures { words.new ≡ place_over words.old place here }
 {
     let at = place * PLACE;
-    let held = here.held;
-    match held {
-        Held::Empty => put_four(words, at, 0, 0, 0, 0),
-        Held::Holds(placed) => put_four(words, at, 1, placed.next, placed.period, placed.duration),
-    }
+    words[at..at + PLACE].copy_from_slice(&words_of(here));
 }
 
 // The last count and the run in progress.
-fn put_tail(words: &mut [u32; LENGTH], last: u32, place: u32, left: u32)
-    ensures { words.new ≡ sets words.old last_at (last ∷ place ∷ left ∷ []) }
+fn put_tail(words: &mut [u32; LENGTH], last: u32, run: Run)
+    ensures { words.new ≡ sets words.old last_at (last ∷ run.place ∷ run.left ∷ []) }
 {
-    words[LAST] = last;
-    words[RUNS] = place;
-    words[LEFT] = left;
+    words[LAST..].copy_from_slice(&[last, run.place, run.left]);
 }
 
 // Makes the words those of a dispatcher without a train, whose first step is the one with the count after this.
@@ -126,95 +101,88 @@ pub fn fresh(words: &mut [u32; LENGTH], count: u32)
 }
 
 // Admits a train, as `Dispatcher::admit` does.
-pub fn admit(words: &mut [u32; LENGTH], delay: u32, period: u32, duration: u32) -> Admission
+#[tactic(auto, using(crate::proofs::Standing::places_read), unfolding(dispatcher::specs::Answer::admission, dispatcher::specs::Answer::lowest))]
+pub fn admit(
+    words: &mut [u32; LENGTH],
+    delay: u32,
+    period: u32,
+    duration: u32,
+) -> Result<usize, Refusal>
     ensures answer { result ≡ (admission_in words.old delay period duration).answer }
     ensures memory { words.new ≡ admitted_in (admission_in words.old delay period duration) words.old }
 {
     let train = Train {
         phase: delay,
-        period: period,
-        duration: duration,
+        period,
+        duration,
     };
     if !train.within_limits() {
-        return Admission::Refused(Refusal::NotATrain);
+        return Err(Refusal::NotATrain);
     }
-    let empty = lowest(words, Sought::Empty);
-    if Dispatcher::PLACES <= empty {
-        return Admission::Refused(Refusal::NoEmptyPlace);
-    }
-    let count = std::num::wrapping_add_u32(words[LAST], 1);
-    let met = lowest(words, Sought::Colliding(count, train));
-    if met < Dispatcher::PLACES {
-        return Admission::Refused(Refusal::Collision(met));
+    let empty = lowest(words, Sought::Empty).ok_or(Refusal::NoEmptyPlace)?;
+    let count = words[LAST].wrapping_add(1);
+    if let Some(met) = lowest(words, Sought::Colliding(count, train)) {
+        return Err(Refusal::Collision(met));
     }
     let placed = Placed {
-        next: std::num::wrapping_add_u32(count, delay),
-        period: period,
-        duration: duration,
+        next: count.wrapping_add(delay),
+        period,
+        duration,
     };
-    put_place(
-        words,
-        empty,
-        Place {
-            held: Held::Holds(placed),
-        },
-    );
-    Admission::At(empty)
+    put_place(words, empty, Place { held: Some(placed) });
+    Ok(empty)
 }
 
 // Empties a place at once, as `Dispatcher::withdraw` does.
-pub fn withdraw(words: &mut [u32; LENGTH], place: usize) -> Withdrawal
+#[tactic(auto, using(crate::proofs::Standing::places_read), unfolding(dispatcher::specs::Answer::withdrawal, dispatcher::specs::Answer::is_sought))]
+pub fn withdraw(words: &mut [u32; LENGTH], place: usize) -> Result<(), Refusal>
     ensures answer { result ≡ (withdrawal_in words.old place).answer }
     ensures memory { words.new ≡ withdrew_in place (withdrawal_in words.old place) words.old }
 {
-    if Dispatcher::PLACES <= place {
-        return Withdrawal::Refused(Refusal::NoTrainThere);
+    if Dispatcher::PLACES <= place || place_at(words, place).is(Sought::Empty) {
+        return Err(Refusal::NoTrainThere);
     }
-    let here = place_at(words, place);
-    if here.is(Sought::Empty) {
-        return Withdrawal::Refused(Refusal::NoTrainThere);
-    }
+    let run = run_at(words);
     let last = words[LAST];
-    let run = Run {
-        place: words[RUNS],
-        left: words[LEFT],
-    };
-    let ended = run.ended(place);
-    put_place(words, place, Place { held: Held::Empty });
-    put_tail(words, last, ended.place, ended.left);
-    Withdrawal::Withdrawn
-}
-
-// The train at a place starts, and this is the last count.
-fn start(words: &mut [u32; LENGTH], place: usize, count: u32)
-    requires { place < place_count }
-    ensures { words.new ≡ started_in words.old place count }
-{
-    let here = place_at(words, place);
-    put_place(words, place, here.started());
-    put_tail(words, count, place as u32, here.rest());
+    put_place(words, place, Place { held: None });
+    put_tail(words, last, run.ended(place));
+    Ok(())
 }
 
 // One tick, as `Dispatcher::step` does it. In mid-run no place is looked at.
-pub fn step(words: &mut [u32; LENGTH], count: u32) -> Tick
+#[tactic(auto, using(crate::proofs::Standing::places_read), unfolding(dispatcher::specs::Answer::stepping, dispatcher::specs::Answer::lowest))]
+pub fn step(words: &mut [u32; LENGTH], count: u32) -> Result<Tick, Refusal>
     ensures answer { result ≡ (stepping_in words.old count).answer }
     ensures memory { words.new ≡ stepped_in (stepping_in words.old count) words.old }
 {
-    if count != std::num::wrapping_add_u32(words[LAST], 1) {
-        return Tick::Refused(Refusal::WrongCount);
+    if count != words[LAST].wrapping_add(1) {
+        return Err(Refusal::WrongCount);
     }
-    let place = words[RUNS];
-    let left = words[LEFT];
-    if 0 < left {
-        let running = wide(place);
-        put_tail(words, count, place, left - 1);
-        return Tick::GoesOn(running);
+    let run = run_at(words);
+    if 0 < run.left {
+        put_tail(
+            words,
+            count,
+            Run {
+                left: run.left - 1,
+                ..run
+            },
+        );
+        return Ok(Tick::GoesOn(run.place as usize));
     }
-    let due = lowest_due(words, count);
-    if Dispatcher::PLACES <= due {
-        put_tail(words, count, place, left);
-        return Tick::Idle;
-    }
-    start(words, due, count);
-    Tick::Starts(due)
+    let Some(due) = lowest(words, Sought::Due(count)) else {
+        put_tail(words, count, run);
+        return Ok(Tick::Idle);
+    };
+    let here = place_at(words, due);
+    put_place(words, due, here.started());
+    put_tail(
+        words,
+        count,
+        Run {
+            place: due as u32,
+            left: here.rest(),
+        },
+    );
+    Ok(Tick::Starts(due))
 }
