@@ -19,9 +19,9 @@ use Rattle.judge.specs.Paper.{refuse, paper}
 use Rattle.judge.specs.Answer.{verdict}
 use Rattle.stored.specs.Found.{trains_in}
 use Rattle.stored.specs.Given.{load_order}
-use Rattle.stored.specs.Paper.{paper_saved}
+use Rattle.stored.specs.Paper.{paper_answer}
 use Rattle.stored.specs.Answer.{saved, buffer_after}
-use Rattle.stored.proofs.Numbers.{saved_is, buffer_is}
+use Rattle.stored.proofs.Numbers.{answer_is, buffer_is}
 use Rattle.file.specs.Answer.{file_verdict}
 use Rattle.file.proofs.Judging as judging
 
@@ -49,7 +49,7 @@ file_refused bs =
     (judging.file_refused bs)
 
 pub verdict_kept :
-    (row out : List ℕ) (n : ℕ) → paper_saved (saved row (length out)) ≡ answers n → file_verdict (take n (buffer_after row out)) ≡ verdict row
+    (row out : List ℕ) (n : ℕ) → paper_answer (saved row (length out)) ≡ answers n → file_verdict (take n (buffer_after row out)) ≡ verdict row
 verdict_kept row out n e =
-    let wrote = (saved_is (saved row (length out)) n).0 e in
+    let wrote = (answer_is (saved row (length out)) n).0 e in
     ap (λ (l : List ℕ). file_verdict (take n l)) (buffer_is row out _ wrote) ∙ judging.verdict_kept row out n wrote
