@@ -80,9 +80,7 @@ running_above ds h = (there (dec_le (common_multiple ds) limit), λ l. running_i
   where
     there : Dec (common_multiple ds ≤ limit) → running ds ≡ None → limit < common_multiple ds
     there (yes k) e =
-        let within = running_is ds h ∙ sym (within_limited (common_multiple ds) (common_multiple ds) k refl) in
-        let z : ◌≡◌ {A = ℕ} 0 1 = cc in
-        absurd (omega arith)
+        let within = running_is ds h ∙ sym (within_limited (common_multiple ds) (common_multiple ds) k refl) in cc
     there (no k) e = omega arith
 
 pub running_within : (ds : List ℕ) (m : ℕ) → 0 < common_multiple ds → running ds ≡ Some m → m ≡ common_multiple ds
@@ -91,9 +89,7 @@ running_within ds m h e = go (dec_le (common_multiple ds) limit)
     go : Dec (common_multiple ds ≤ limit) → m ≡ common_multiple ds
     go (yes k) = let within = running_is ds h ∙ sym (within_limited (common_multiple ds) (common_multiple ds) k refl) in cc
     go (no k) =
-        let above = (running_above ds h).1 (omega arith) in
-        let z : ◌≡◌ {A = ℕ} 0 1 = cc in
-        absurd (omega arith)
+        let above = (running_above ds h).1 (omega arith) in cc
 
 -- a multiple of positive numbers is positive
 pub multiple_none_pos : 0 < common_multiple []

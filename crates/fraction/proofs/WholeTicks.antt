@@ -45,12 +45,9 @@ ticks_exact time tick k e = go (ℕ_discrete u 0) (ℕ_discrete (n % u) 0)
     u : ℕ
     u = time.denominator * tick.numerator
 
-    never : None ≡ whole_ticks time tick → ⊥
-    never z = let o : ◌≡◌ {A = ℕ} 0 1 = cc in omega arith
-
     go : Dec (u ≡ 0) → Dec (n % u ≡ 0) → IsTicks time tick k
-    go (yes h) d = absurd (never (ticks_no_unit time tick n u refl refl h))
-    go (no h) (no r) = absurd (never (ticks_rest time tick n u refl refl h r))
+    go (yes h) d = let none = ticks_no_unit time tick n u refl refl h in cc
+    go (no h) (no r) = let none = ticks_rest time tick n u refl refl h r in cc
     go (no h) (yes r) =
         let w = ticks_whole time tick n u refl refl h r in
         let q : k ≡ n / u = cc in
@@ -97,9 +94,7 @@ ticks_lowest f tick = go (dec_le 1 f.denominator) (dec_le 1 tick.numerator)
         None ≡ whole_ticks f tick
     never None q e h u = sym q
     never (Some j) q e h u =
-        let found = ticks_found (lowest f) tick j (lowest_terms f h).positive u ((lowest_is_ticks f tick j h).0 (ticks_exact f tick j q)) in
-        let z : ◌≡◌ {A = ℕ} 0 1 = cc in
-        absurd (omega arith)
+        let found = ticks_found (lowest f) tick j (lowest_terms f h).positive u ((lowest_is_ticks f tick j h).0 (ticks_exact f tick j q)) in cc
 
     same :
         (r : Option ℕ) → whole_ticks (lowest f) tick ≡ r → 0 < f.denominator → 0 < tick.numerator →

@@ -4,11 +4,12 @@
 use Prim.Native.Nat.{ℕ, zero, suc, ◌*◌, ◌<◌, ◌≤◌}
 use mathlib.Core.Path.{◌≡◌, refl, sym, ap, subst, ◌∙◌}
 use mathlib.Core.Logic.{inl, inr}
-use mathlib.Core.List.{List, [], ◌∷◌, ◌++◌, map}
+use mathlib.Core.List.{List, [], ◌∷◌, ◌++◌}
 use native.Mathlib.Nat.{mul-pos}
 use native.Mathlib.Omega.{arith}
 use lib.ListN.{length, get_or, take, length-map}
 use lib.Seq.{take_all}
+use Rattle.std.proofs.lemmas.List.{get_or-map}
 use Rattle.std.specs.Prelude.{Some, Result, Ok, Err}
 use Rattle.refusal.specs.declared.Refusal.{Refusal}
 use Rattle.refusal.specs.Order.{in_turn, None}
@@ -42,12 +43,6 @@ all_within (e ∷ es) within =
 some_ticks : (k u v : ℕ) → k * u ≡ v → 0 < v → 1 ≤ k
 some_ticks zero u v e h = absurd (omega arith)
 some_ticks (suc k) u v e h = omega arith
-
--- an element of a mapped list
-get_d_map : {A B : Type 0} (f : A → B) (l : List A) (i : ℕ) (a : A) (b : B) → i < length l → get_or (map f l) i b ≡ f (get_or l i a)
-get_d_map f [] i a b h = absurd (omega arith)
-get_d_map f (x ∷ l) zero a b h = refl
-get_d_map f (x ∷ l) (suc i) a b h = get_d_map f l i a b (omega arith)
 
 -- a value that there is after an outcome, and the outcome from the answer
 module _ {A : Type 0} (value : A) where
@@ -100,7 +95,7 @@ module _ (row : List ℕ) where
       (i : ℕ) → i < length (entries row) →
       get_or (trains row) i no_train ≡ train_of (tick (entries row)) (get_or (entries row) i no_entry)
   unfolding trains
-  trains_at i h = get_d_map (train_of (tick (entries row))) (entries row) i no_entry no_train h
+  trains_at i h = get_or-map (train_of (tick (entries row))) (entries row) i no_entry no_train h
 
   module _ (e : refusal row ≡ Ok tt) where
     pub passed_limit : multiple (entries row) ≤ limit

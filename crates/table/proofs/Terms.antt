@@ -13,6 +13,7 @@ use native.Mathlib.Omega.{arith}
 use lib.Dec.{eqb, ltb}
 use lib.ListN.{length, get_or, take, length-map}
 use borrow.Author.Tests.{eqb-false, ne_eqb}
+use Rattle.std.proofs.lemmas.List.{take-map}
 use Rattle.std.specs.Prelude.{Result, Ok}
 use Rattle.refusal.specs.declared.Refusal.{Refusal}
 use Rattle.refusal.specs.declared.Refusal.TheVariants.{TrainCount, TickTooFine}
@@ -135,11 +136,6 @@ unfolding first_refusal
 first_lowest check same i [] = refl
 first_lowest check same i (e ∷ es) = λ j. or_else (same i e j) (first_lowest check same (suc i) es j)
 
-take_lowest : (n : ℕ) (es : List Entry) → take n (map lowest_entry es) ≡ map lowest_entry (take n es)
-take_lowest zero es = refl
-take_lowest (suc n) [] = refl
-take_lowest (suc n) (e ∷ es) = ap (λ (fs : List Entry). lowest_entry e ∷ fs) (take_lowest n es)
-
 multiple_lowest : (es : List Entry) → multiple_checked (map lowest_entry es) ≡ multiple_checked es
 multiple_lowest es =
     ap (λ (check : ℕ → Entry → Outcome). first_refusal check 0 (map lowest_entry es))
@@ -148,7 +144,7 @@ multiple_lowest es =
     fun_ext
     (λ e.
     ap (λ (ds : List ℕ). test (is_above (running ds)) (TickTooFine i))
-    (ap denominators (take_lowest (suc i) es) ∙ denominators_lowest (take (suc i) es)))))
+    (ap denominators (take-map lowest_entry (suc i) es) ∙ denominators_lowest (take (suc i) es)))))
     ∙ first_lowest (multiple_check es) (λ i e. refl) 0 es
 
 trains_lowest : (unit : Fraction) (es : List Entry) → map (train_of unit) (map lowest_entry es) ≡ map (train_of unit) es
