@@ -2,6 +2,7 @@
 -- Core: tallied_more, trains_table. The rest follows from these and from the laws of listing.
 -- Assumes nothing.
 use Prim.Native.Nat.{ℕ, suc, ◌+◌, ◌*◌, ◌%◌, ◌<◌, ◌≤◌}
+use denote.Ref.{Bor}
 use mathlib.Core.Path.{◌≡◌, refl, sym, ap, ◌∙◌}
 use mathlib.Core.Bool.{Bool, true, false}
 use mathlib.Core.List.{List, [], ◌∷◌, ◌++◌, map}
@@ -9,47 +10,47 @@ use native.Mathlib.Nat.{add-zero}
 use native.Mathlib.Numerals.{add-one}
 use native.Mathlib.Omega.{arith}
 use lib.Dec.{ltb}
-use lib.ListN.{length, drop, drop_of_length-le, length-drop, length-map}
+use lib.ListN.{length, drop, length-map}
 use borrow.Author.Tests.{lt-ltb, le-ltb, ltb-true, ltb-false}
+use Rattle.std.specs.Prelude.{Option, Some, None, Result, Ok, Err}
+use Rattle.std.specs.Option.{ok_or}
+use Rattle.std.specs.Result.{result_and}
 use Rattle.refusal.specs.declared.Refusal.{Refusal}
 use Rattle.refusal.specs.declared.Refusal.TheVariants.{TrainCount, TextTooLong, BufferTooShort, BadRecord}
 use Rattle.lent.specs.Lent.{over}
 use Rattle.lent.proofs.Over.{over_front}
-use Rattle.decimal.specs.Answer.{nothing, found}
+use Rattle.decimal.specs.Answer.{found}
 use Rattle.table.specs.declared.Entry.{Entry}
-use Rattle.table.specs.declared.Outcome.{Outcome}
-use Rattle.table.specs.declared.Outcome.TheVariants.{Passed, Refused}
 use Rattle.table.specs.Row.{capacity, numbers, row_of, lowest_entry}
-use Rattle.table.specs.Answer.{test, or_else, first_refusal, entry_check, checked}
+use Rattle.table.specs.Answer.{Outcome, test, or_else, first_refusal, entry_check, checked}
 use Rattle.table.proofs.Checks.{refused_not_passed, checked_longer, checked_trains}
 use Rattle.table.proofs.Rows.{row_length, row_entries}
-use Rattle.listing.specs.declared.Imported.TheVariants as imports
 use Rattle.listing.specs.Layout.{longest_text}
 use Rattle.listing.specs.Answer.{heading_in, entry_in, Listed, bad, trains, one_more, entries_from, listed, trains_of}
-use Rattle.listing.specs.Answer.{table_check, imported_after, imported_of, imported, imported_in}
+use Rattle.listing.specs.Answer.{table_check, imported_of, imported, imported_in}
 use Rattle.listing.proofs.Records.{entry_shorter}
 use Rattle.listing.proofs.Texts.{entries_in, entries_bad, entries_on, listed_bad, listed_on}
-use Rattle.importer.specs.declared.Behind.{Behind}
-use Rattle.importer.specs.declared.Behind.TheVariants as places
-use Rattle.importer.specs.declared.Train.{Train}
-use Rattle.importer.specs.declared.Train.TheVariants as records
 use Rattle.importer.specs.declared.Scanned.{Scanned}
-use Rattle.importer.specs.declared.Scanned.TheVariants as scans
-use Rattle.importer.specs.Inside.{place_of, train_of, listed_from, tallied, trains_check, Ready}
-use Rattle.importer.proofs.Ways.{told_place, told_train}
+use Rattle.importer.specs.Inside.{told, behind, listed_from, tallied, trains_check, Ready}
+use Rattle.importer.proofs.Ways.{behind_none, behind_some}
 
 -- ---- Core laws
 
-or_else_lem : (o p q : Outcome) → or_else (or_else o p) q ≡ or_else o (or_else p q)
-or_else_lem Passed p q = refl
-or_else_lem (Refused r) p q = refl
+or_else_lem : {A : Type 0} (o p : Outcome) (q : Result A Refusal) → or_else (or_else o p) q ≡ or_else o (or_else p q)
+or_else_lem (Ok u) p q = refl
+or_else_lem (Err r) p q = refl
 
-or_passed : (o : Outcome) → o ≡ or_else o Passed
-or_passed Passed = refl
-or_passed (Refused r) = refl
+or_passed : (o : Outcome) → o ≡ or_else o (Ok tt)
+or_passed (Ok u) = refl
+or_passed (Err r) = refl
 
-pub else_next : (o p : Outcome) → o ≡ Passed → p ≡ or_else o p
-else_next o p e = ap (λ (q : Outcome). or_else q p) (sym e)
+-- what the library says of two outcomes one after the other
+and_else : (o p : Outcome) → result_and o p ≡ or_else o p
+and_else (Ok u) p = refl
+and_else (Err r) p = refl
+
+zero_not_one : ◌≡◌ {A = ℕ} 0 1 → ⊥
+zero_not_one z = omega arith
 
 -- one train more stands before the others
 tallied_more : (n : ℕ) (o : Outcome) (e : Entry) (x : Listed) → tallied (n + 1) (or_else o (entry_check n e)) x ≡ tallied n o (one_more e x)
@@ -57,100 +58,76 @@ unfolding one_more first_refusal
 tallied_more n o e (bad k) = refl
 tallied_more n o e (trains es) =
     let count : n + 1 + length es ≡ n + length (e ∷ es) = omega arith in
-    ap (λ (k : ℕ). scans.Good k (or_else (or_else o (entry_check n e)) (first_refusal entry_check (n + 1) es))) count
-    ∙ ap (λ (k : ℕ). scans.Good (n + length (e ∷ es)) (or_else (or_else o (entry_check n e)) (first_refusal entry_check k es))) (add-one n)
-    ∙ ap (scans.Good (n + length (e ∷ es))) (or_else_lem o (entry_check n e) (first_refusal entry_check (suc n) es))
-
--- ---- A record in a text, for both loops
-
-pub left_at : (text : List ℕ) (at : ℕ) → at < length text → 0 < length (drop at text)
-left_at text at h = omega (arith, length-drop at text)
-
-module _
-    (text : List ℕ) (at : ℕ) (r : Train) (a : Entry) (next : ℕ) (is : r ≡ records.Good a next)
-    (e : train_of text r ≡ entry_in (drop at text)) where
-  pub train_there : entry_in (drop at text) ≡ found a (drop next text)
-  train_there = sym (told_train text r _ _ e is)
-
-  pub train_less : length (drop next text) < length (drop at text)
-  train_less = entry_shorter (drop at text) (drop next text) a train_there
+    let outcome : or_else (or_else o (entry_check n e)) (first_refusal entry_check (n + 1) es)
+    ≡ or_else o (or_else (entry_check n e) (first_refusal entry_check (suc n) es)) =
+    ap (λ (k : ℕ). or_else (or_else o (entry_check n e)) (first_refusal entry_check k es)) (add-one n)
+    ∙ or_else_lem o (entry_check n e) (first_refusal entry_check (suc n) es) in
+    λ i. Ok (record { count = count i; trains = outcome i })
 
 -- ---- The loop that reads all records
 
-module _ (text : List ℕ) (first : ℕ) where
+pub train_less : (l next : List ℕ) (a : Entry) → found a next ≡ entry_in l → length next < length l
+train_less l next a e = entry_shorter l next a (sym e)
+
+module _ (records : List ℕ) where
   -- The records so far are good, and with what was found of them all that is to be found stands from here on.
-  pub record Scanning (at count : ℕ) (outcome : Outcome) : Type 0 where
-    pub answers : tallied count outcome (entries_in (count + 2) (drop at text)) ≡ tallied 0 Passed (listed_from text first)
-    pub room : count + length (drop at text) ≤ length text
+  pub record Scanning (rest : List ℕ) (count : ℕ) (outcome : Outcome) : Type 0 where
+    pub answers : tallied count outcome (entries_in (count + 2) rest) ≡ tallied 0 (Ok tt) (listed_from records)
+    pub room : count + length rest ≤ length records
 
-  pub scan_begins : Scanning first 0 Passed
-  scan_begins = record { answers = refl; room = omega (arith, length-drop first text) }
+  pub scan_begins : Scanning records 0 (Ok tt)
+  scan_begins = record { answers = refl; room = omega arith }
 
-  module _ (at count : ℕ) (outcome : Outcome) (so_far : Scanning at count outcome) where
+  module _ (rest : List ℕ) (count : ℕ) (outcome : Outcome) (so_far : Scanning rest count outcome) where
     pub scan_bad :
-        at < length text → nothing ≡ entry_in (drop at text) → scans.Bad (count + 2) ≡ tallied 0 Passed (listed_from text first)
-    scan_bad h e =
-        ap (tallied count outcome) (sym (entries_bad (count + 2) (drop at text) (left_at text at h) (sym e))) ∙ so_far.answers
+        (length rest ≡ 0 → ⊥) → (r : Option (Entry × Bor (List ℕ))) → told r ≡ entry_in rest → (q : Refusal) →
+        Err q ≡ ok_or r (BadRecord (count + 2)) → Err q ≡ tallied 0 (Ok tt) (listed_from records)
+    scan_bad h None e q is =
+        let same : q ≡ BadRecord (count + 2) = cc in
+        ap (λ (p : Refusal). Err p) same ∙ ap (tallied count outcome) (sym (entries_bad (count + 2) rest (omega arith) (sym e)))
+        ∙ so_far.answers
+    scan_bad h (Some v) e q is = absurd (zero_not_one cc)
 
     pub scan_on :
-        (r : Train) (a : Entry) (next : ℕ) → r ≡ records.Good a next → train_of text r ≡ entry_in (drop at text) →
-        (o : Outcome) → o ≡ or_else outcome (entry_check count a) → Scanning next (count + 1) o
-    scan_on r a next is e o o_is =
+        (next : List ℕ) (a : Entry) → found a next ≡ entry_in rest → (o p : Outcome) → o ≡ entry_check count a → p ≡ result_and outcome o →
+        Scanning next (count + 1) p
+    scan_on next a e o p o_is p_is =
         let further : count + 1 + 2 ≡ suc (count + 2) = omega arith in
+        let whole : p ≡ or_else outcome (entry_check count a) = p_is ∙ and_else outcome o ∙ ap (or_else outcome) o_is in
         record {
           answers =
-              ap (λ (p : Outcome). tallied (count + 1) p (entries_in (count + 1 + 2) (drop next text))) o_is
-              ∙ ap (λ (k : ℕ). tallied (count + 1) (or_else outcome (entry_check count a)) (entries_in k (drop next text))) further
-              ∙ tallied_more count outcome a (entries_in (suc (count + 2)) (drop next text))
-              ∙ ap (tallied count outcome) (sym (entries_on (count + 2) (drop at text) (drop next text) a (train_there text at r a next is e)))
+              ap (λ (q : Outcome). tallied (count + 1) q (entries_in (count + 1 + 2) next)) whole
+              ∙ ap (λ (k : ℕ). tallied (count + 1) (or_else outcome (entry_check count a)) (entries_in k next)) further
+              ∙ tallied_more count outcome a (entries_in (suc (count + 2)) next)
+              ∙ ap (tallied count outcome) (sym (entries_on (count + 2) rest next a (sym e)))
               ∙ so_far.answers;
-          room = omega (arith, train_less text at r a next is e, so_far.room);
+          room = omega (arith, train_less rest next a e, so_far.room);
         }
 
-    pub scan_ends : length text ≤ at → scans.Good count outcome ≡ tallied 0 Passed (listed_from text first)
+    pub scan_ends : length rest ≡ 0 → Ok (record { count = count; trains = outcome }) ≡ tallied 0 (Ok tt) (listed_from records)
     unfolding entries_from first_refusal
-    scan_ends h =
-        let none_left : drop at text ≡ [] = drop_of_length-le text h in
-        ap (λ (k : ℕ). scans.Good k outcome) (sym (add-zero count))
-        ∙ ap (scans.Good (count + 0)) (or_passed outcome)
-        ∙ ap (λ (l : List ℕ). tallied count outcome (entries_in (count + 2) l)) (sym none_left)
-        ∙ so_far.answers
+    scan_ends h = go rest h so_far.answers
+      where
+        go :
+            (l : List ℕ) → length l ≡ 0 → tallied count outcome (entries_in (count + 2) l) ≡ tallied 0 (Ok tt) (listed_from records) →
+            Ok (record { count = count; trains = outcome }) ≡ tallied 0 (Ok tt) (listed_from records)
+        go [] h e = (λ i. Ok (record { count = sym (add-zero count) i; trains = or_passed outcome i })) ∙ e
+        go (b ∷ bs) h e = absurd (omega arith)
 
 -- ---- The checks of the trains
 
-module _ (count : ℕ) (o : Outcome) (room : ℕ) where
-  pub trains_many : capacity < count → Refused TrainCount ≡ trains_check count o room
-  unfolding trains_check
-  trains_many h = simp (lt-ltb capacity count h)
-
-  module _ (few : count ≤ capacity) where
-    -- past the test for 1
-    past_count : (p : Outcome) → o ≡ p → or_else p (test (ltb room (count * numbers)) BufferTooShort) ≡ trains_check count o room
-    unfolding trains_check
-    past_count p h = simp (le-ltb capacity count few, h)
-
-    pub trains_refused : (r : Refusal) → o ≡ Refused r → o ≡ trains_check count o room
-    trains_refused r h = h ∙ past_count (Refused r) h
-
-    module _ (passed : o ≡ Passed) where
-      pub trains_short : room < count * numbers → Refused BufferTooShort ≡ trains_check count o room
-      trains_short h = simp (lt-ltb room (count * numbers) h) at past_count Passed passed
-
-      pub trains_pass : count * numbers ≤ room → Passed ≡ trains_check count o room
-      trains_pass h = simp (le-ltb room (count * numbers) h) at past_count Passed passed
-
 -- where all pass there is room
-trains_fit : (count : ℕ) (o : Outcome) (room : ℕ) → trains_check count o room ≡ Passed → count * numbers ≤ room
+trains_fit : (s : Scanned) (room : ℕ) → trains_check s room ≡ Ok tt → s.count * numbers ≤ room
 unfolding trains_check
-trains_fit count o room e = go (test (ltb capacity count) TrainCount) o (ltb room (count * numbers)) refl e
+trains_fit s room e = go (test (ltb capacity s.count) TrainCount) s.trains (ltb room (s.count * numbers)) refl e
   where
     go :
-        (a b : Outcome) (t : Bool) → ltb room (count * numbers) ≡ t → or_else a (or_else b (test t BufferTooShort)) ≡ Passed →
-        count * numbers ≤ room
-    go (Refused r) b t h e = absurd (refused_not_passed r e)
-    go Passed (Refused r) t h e = absurd (refused_not_passed r e)
-    go Passed Passed true h e = absurd (refused_not_passed BufferTooShort e)
-    go Passed Passed false h e = ltb-false room (count * numbers) h
+        (a b : Outcome) (t : Bool) → ltb room (s.count * numbers) ≡ t → or_else a (or_else b (test t BufferTooShort)) ≡ Ok tt →
+        s.count * numbers ≤ room
+    go (Err r) b t h e = absurd (refused_not_passed r e)
+    go (Ok u) (Err r) t h e = absurd (refused_not_passed r e)
+    go (Ok u) (Ok v) true h e = absurd (refused_not_passed BufferTooShort e)
+    go (Ok u) (Ok v) false h e = ltb-false room (s.count * numbers) h
 
 -- the row of some trains has refusal 1 exactly where they are too many, and else theirs
 trains_checked : (es : List Entry) → checked (row_of es) ≡ or_else (test (ltb capacity (length es)) TrainCount) (first_refusal entry_check 0 es)
@@ -166,7 +143,9 @@ trains_checked es = go (ltb capacity (length es)) refl
         ∙ ap (first_refusal entry_check 0) (row_entries es)
 
 -- with the count and the first refusal of the trains, the check is that of the whole table
-trains_table : (es : List Entry) (room : ℕ) → trains_check (length es) (first_refusal entry_check 0 es) room ≡ table_check es room
+trains_table :
+    (es : List Entry) (room : ℕ) →
+    trains_check (record { count = length es; trains = first_refusal entry_check 0 es }) room ≡ table_check es room
 unfolding trains_check table_check
 trains_table es room =
     sym (or_else_lem (test (ltb capacity (length es)) TrainCount) (first_refusal entry_check 0 es) _)
@@ -174,35 +153,36 @@ trains_table es room =
 
 -- ---- The ways through `import`
 
--- what is known of a listing of so many trains with that outcome
-record Known (x : Listed) (count : ℕ) (o : Outcome) : Type 0 where
+-- what is known of a listing that was read
+record Known (x : Listed) (s : Scanned) : Type 0 where
   good : x ≡ trains (trains_of x)
-  counted : count ≡ length (trains_of x)
-  refusal : o ≡ first_refusal entry_check 0 (trains_of x)
+  same : s ≡ record { count = length (trains_of x); trains = first_refusal entry_check 0 (trains_of x) }
 
-known : (x : Listed) (count : ℕ) (o : Outcome) → tallied 0 Passed x ≡ scans.Good count o → Known x count o
-known (bad k) count o e = absurd (let z : ◌≡◌ {A = ℕ} 0 1 = cc in omega arith)
-known (trains es) count o e =
-    let same : 0 + length es ≡ count = cc in
-    record { good = refl; counted = omega arith; refusal = let told : first_refusal entry_check 0 es ≡ o = cc in sym told }
+known : (x : Listed) (s : Scanned) → tallied 0 (Ok tt) x ≡ Ok s → Known x s
+known (bad k) s e = absurd (zero_not_one cc)
+known (trains es) s e =
+    let told : record { count = 0 + length es; trains = first_refusal entry_check 0 es } ≡ s = cc in
+    let count : 0 + length es ≡ length es = omega arith in
+    record { good = refl; same = sym told ∙ ap (λ (n : ℕ). record { count = n; trains = first_refusal entry_check 0 es }) count }
 
-bad_answer : (x : Listed) (k room : ℕ) → tallied 0 Passed x ≡ scans.Bad k → imports.Refused (BadRecord k) ≡ imported_of room x
-bad_answer (bad j) k room e = let same : j ≡ k = cc in ap (λ (n : ℕ). imports.Refused (BadRecord n)) (sym same)
-bad_answer (trains es) k room e = absurd (let z : ◌≡◌ {A = ℕ} 0 1 = cc in omega arith)
+bad_answer : (x : Listed) (r : Refusal) (room : ℕ) → tallied 0 (Ok tt) x ≡ Err r → Err r ≡ imported_of room x
+bad_answer (bad j) r room e = let same : BadRecord j ≡ r = cc in ap (λ (q : Refusal). Err q) (sym same)
+bad_answer (trains es) r room e = absurd (zero_not_one cc)
 
--- The text is not too long, and its heading ends where the first train begins.
-pub record Begun (text : List ℕ) (first : ℕ) : Type 0 where
+-- The text is not too long, and the records behind its heading stand there.
+pub record Begun (text records : List ℕ) : Type 0 where
   pub short : length text ≤ longest_text
-  pub same : listed_from text first ≡ listed text
+  pub same : listed_from records ≡ listed text
 
-pub begun :
-    (text : List ℕ) → length text ≤ longest_text → (h : Behind) → place_of text h ≡ heading_in text →
-    (first : ℕ) → h ≡ places.At first → Begun text first
-begun text short h h-is first e =
-    record { short = short; same = sym (listed_on text (drop first text) tt (sym (told_place text h _ _ h-is e))) }
+module _ (text : List ℕ) (short : length text ≤ longest_text) (h : Option (Bor (List ℕ))) (h_is : behind h ≡ heading_in text) where
+  pub begun : (records : Bor (List ℕ)) → h ≡ Some records → Begun text records.now
+  begun records e = record { short = short; same = sym (listed_on text records.now tt (sym (behind_some h _ h_is records e))) }
+
+  headless : h ≡ None → listed text ≡ bad 1
+  headless e = listed_bad text (sym (behind_none h _ h_is e))
 
 module _ (text : List ℕ) (room : ℕ) where
-  pub import_long : longest_text < length text → imports.Refused TextTooLong ≡ imported text room
+  pub import_long : longest_text < length text → Err TextTooLong ≡ imported text room
   unfolding imported
   import_long h = simp (lt-ltb longest_text (length text) h)
 
@@ -211,55 +191,58 @@ module _ (text : List ℕ) (room : ℕ) where
   import_listed short x e = simp (le-ltb longest_text (length text) short, e)
 
   pub import_headless :
-      length text ≤ longest_text → (h : Behind) → place_of text h ≡ heading_in text → h ≡ places.Missing →
-      imports.Refused (BadRecord 1) ≡ imported text room
-  import_headless short h h-is e = import_listed short (bad 1) (sym (listed_bad text (sym (told_place text h _ _ h-is e))))
+      length text ≤ longest_text → (h : Option (Bor (List ℕ))) → behind h ≡ heading_in text → (r : Refusal) →
+      Err r ≡ ok_or h (BadRecord 1) → Err r ≡ imported text room
+  import_headless short None h_is r e =
+      let same : r ≡ BadRecord 1 = cc in ap (λ (q : Refusal). Err q) same ∙ import_listed short (bad 1) (sym (headless text short None h_is refl))
+  import_headless short (Some records) h_is r e = absurd (zero_not_one cc)
 
-  module _ (first : ℕ) (b : Begun text first) (r : Scanned) (r-is : r ≡ tallied 0 Passed (listed_from text first)) where
-    pub import_bad : (k : ℕ) → r ≡ scans.Bad k → imports.Refused (BadRecord k) ≡ imported text room
-    import_bad k e =
-        bad_answer (listed_from text first) k room (sym r-is ∙ e) ∙ import_listed b.short (listed_from text first) b.same
+  module _
+      (records : List ℕ) (b : Begun text records) (answer : Result Scanned Refusal)
+      (answer_is : answer ≡ tallied 0 (Ok tt) (listed_from records))
+    where
+      pub import_bad : (r : Refusal) → answer ≡ Err r → Err r ≡ imported text room
+      import_bad r e = bad_answer (listed_from records) r room (sym answer_is ∙ e) ∙ import_listed b.short (listed_from records) b.same
 
-    module _ (count : ℕ) (o : Outcome) (e : r ≡ scans.Good count o) (p : Outcome) (p-is : p ≡ trains_check count o room) where
-      sure : Known (listed_from text first) count o
-      sure = known (listed_from text first) count o (sym r-is ∙ e)
+      module _ (s : Scanned) (e : answer ≡ Ok s) (p : Outcome) (p_is : p ≡ trains_check s room) where
+        sure : Known (listed_from records) s
+        sure = known (listed_from records) s (sym answer_is ∙ e)
 
-      -- the answer, from the outcome of the checks
-      from_checks : (q : Outcome) → p ≡ q → imported_after q count ≡ imported text room
-      from_checks q h =
-          let es : List Entry = trains_of (listed_from text first) in
-          let whole : q ≡ table_check es room =
-          sym h
-          ∙ p-is
-          ∙ ap (λ (k : ℕ). trains_check k o room) sure.counted
-          ∙ ap (λ (u : Outcome). trains_check (length es) u room) sure.refusal
-          ∙ trains_table es room in
-          ap (λ (u : Outcome). imported_after u count) whole
-          ∙ ap (imported_after (table_check es room)) sure.counted
-          ∙ ap (imported_of room) (sym sure.good)
-          ∙ import_listed b.short (listed_from text first) b.same
+        -- the answer, from the outcome of the checks
+        from_checks : (q : Outcome) → p ≡ q → or_else q (Ok s.count) ≡ imported text room
+        from_checks q h =
+            let es : List Entry = trains_of (listed_from records) in
+            let whole : q ≡ table_check es room = sym h ∙ p_is ∙ ap (λ (x : Scanned). trains_check x room) sure.same ∙ trains_table es room in
+            ap (λ (u : Outcome). or_else u (Ok s.count)) whole
+            ∙ ap (λ (x : Scanned). or_else (table_check es room) (Ok x.count)) sure.same
+            ∙ ap (imported_of room) (sym sure.good)
+            ∙ import_listed b.short (listed_from records) b.same
 
-      pub import_refused : (refusal : Refusal) → p ≡ Refused refusal → imports.Refused refusal ≡ imported text room
-      import_refused refusal h = from_checks (Refused refusal) h
+        pub import_refused : (r : Refusal) → p ≡ Err r → Err r ≡ imported text room
+        import_refused r h = from_checks (Err r) h
 
-      module _ (passed : p ≡ Passed) where
-        pub import_answers : imports.Count count ≡ imported text room
-        import_answers = from_checks Passed passed
+        module _ (passed : p ≡ Ok tt) where
+          pub import_answers : Ok s.count ≡ imported text room
+          import_answers = from_checks (Ok tt) passed
 
-        pub import_ready : Ready (listed_from text first) room
-        import_ready =
-            record { good = sure.good; fits = omega (arith, sure.counted, trains_fit count o room (sym p-is ∙ passed)) }
+          pub import_ready : Ready (listed_from records) s.count room
+          import_ready =
+              record {
+                good = sure.good;
+                counted = ap (λ (x : Scanned). x.count) sure.same;
+                fits = trains_fit s room (sym p_is ∙ passed);
+              }
 
-        -- the trains are the whole row, at its front
-        pub import_writes :
-            (before now : List ℕ) → now ≡ over before 0 (row_of (map lowest_entry (trains_of (listed_from text first)))) →
-            now ≡ imported_in (imports.Count count) text before
-        unfolding imported_in
-        import_writes before now w =
-            let es : List Entry = trains_of (listed_from text first) in
-            let long : length (row_of (map lowest_entry es)) ≡ count * numbers =
-            row_length (map lowest_entry es)
-            ∙ ap (λ (n : ℕ). n * numbers) (length-map es lowest_entry ∙ sym sure.counted) in
-            w
-            ∙ over_front before (row_of (map lowest_entry es)) (count * numbers) long
-            ∙ ap (λ (x : Listed). row_of (map lowest_entry (trains_of x)) ++ drop (count * numbers) before) b.same
+          -- the trains are the whole row, at its front
+          pub import_writes :
+              (before now : List ℕ) → now ≡ over before 0 (row_of (map lowest_entry (trains_of (listed_from records)))) →
+              now ≡ imported_in (Ok s.count) text before
+          unfolding imported_in
+          import_writes before now w =
+              let es : List Entry = trains_of (listed_from records) in
+              let long : length (row_of (map lowest_entry es)) ≡ s.count * numbers =
+              row_length (map lowest_entry es)
+              ∙ ap (λ (n : ℕ). n * numbers) (length-map es lowest_entry ∙ sym import_ready.counted) in
+              w
+              ∙ over_front before (row_of (map lowest_entry es)) (s.count * numbers) long
+              ∙ ap (λ (x : Listed). row_of (map lowest_entry (trains_of x)) ++ drop (s.count * numbers) before) b.same

@@ -1,31 +1,23 @@
--- `scan` meets its contract. The loop's invariant, `Scanning`: the records so far are good, and with what was found of them all that
--- is to be found stands from here on. The measure is the bytes that are left.
-use native.Mathlib.Omega.{arith}
-use Rattle.importer.proofs.Ways.{told_train}
-use Rattle.importer.proofs.Answers.{train_less, scan_begins, scan_bad, scan_on, scan_ends}
+-- `scan` meets its contract: each record is read behind the one before it, and its train is checked where none before it was refused.
+use mathlib.Core.Path.{sym, ◌∙◌}
+use borrow.Author.Tests.{eqb-true, eqb-false}
+use Rattle.std.proofs.Common.{rules}
+use Rattle.importer.proofs.Ways.{told_some}
+use Rattle.importer.proofs.Answers.{train_less, scan_bad, scan_on, scan_ends}
 use Rattle.importer.proofs.scan.Goals as goal
 
-pub loop-at-init : goal.loop-at-init
-loop-at-init c = scan_begins _ _
+pub returns-in_err-entry : goal.returns-in_err-entry
+returns-in_err-entry c =
+    let k = scan_bad _ _ _ _ c.loop-rest.invariant (eqb-false _ _ (sym c.is_empty.ensures ∙ c.loop-rest-test.true))
+    _ c.read_entry.ensures _ c.in_err-entry.ensures.value in search (rules, k)
 
-pub overflow_add-result : goal.overflow_add-result
-overflow_add-result c = omega (arith, c.loop-at.invariant.room)
+pub loop-rest-smaller : goal.loop-rest-smaller
+loop-rest-smaller c = train_less _ _ _ (told_some _ _ c.read_entry.ensures _ _ c.in_ok-entry.ensures.ok_part)
 
-pub returns-in_default : goal.returns-in_default
-returns-in_default c =
-    scan_bad _ _ _ _ _ c.loop-at.invariant c.loop-at-test.true
-    (told_train _ _ _ _ c.entry_at.ensures c.in_default.is)
-
-pub overflow_add-count : goal.overflow_add-count
-overflow_add-count c = omega (arith, c.loop-at.invariant.room)
-
-pub loop-at-smaller : goal.loop-at-smaller
-loop-at-smaller c = train_less c.args.text.now c.loop-at.at _ _ _ c.in-Good.is c.entry_at.ensures
-
-pub loop-at-preserved : goal.loop-at-preserved
-loop-at-preserved c =
-    scan_on _ _ _ _ _ c.loop-at.invariant _ _ _ c.in-Good.is c.entry_at.ensures _
-    c.refusal_so_far-outcome.ensures
+pub loop-rest-preserved : goal.loop-rest-preserved
+loop-rest-preserved c =
+    scan_on _ _ _ _ c.loop-rest.invariant _ _ (told_some _ _ c.read_entry.ensures _ _ c.in_ok-entry.ensures.ok_part)
+    _ _ c.check.ensures c.and-trains.ensures
 
 pub returns : goal.returns
-returns c = scan_ends _ _ _ _ _ c.loop-at.invariant c.loop-at-test.false
+returns c = scan_ends _ _ _ _ c.loop-rest.invariant (eqb-true _ _ (sym c.is_empty.ensures ∙ c.loop-rest-test.false))
