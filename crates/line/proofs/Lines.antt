@@ -8,9 +8,10 @@ use mathlib.Core.Logic.{◌↔◌}
 use mathlib.Core.List.{List, [], ◌∷◌, ◌++◌}
 use native.Mathlib.Nat.{zero-add}
 use native.Mathlib.Omega.{arith}
-use lib.Dec.{ltb, leb}
+use Rattle.std.specs.Prelude.{Result, Ok, Err}
+use lib.Dec.{ltb}
 use lib.ListN.{length, length-append}
-use borrow.Author.Tests.{ltb-true, lt-ltb, le-ltb, leb-true, leb-false}
+use borrow.Author.Tests.{ltb-true, lt-ltb, le-ltb}
 use Rattle.refusal.specs.declared.Refusal.{Refusal}
 use Rattle.refusal.specs.declared.Refusal.TheVariants.{BufferTooShort}
 use Rattle.refusal.specs.Paper as refusals
@@ -21,8 +22,6 @@ use Rattle.judge.specs.declared.Meeting.{Meeting}
 use Rattle.judge.specs.declared.Verdict.{Verdict}
 use Rattle.judge.specs.declared.Verdict.TheVariants as verdicts
 use Rattle.judge.specs.Paper.{Shown, accept, collide, refuse, paper}
-use Rattle.line.specs.declared.Written.{Written}
-use Rattle.line.specs.declared.Written.TheVariants.{Length, Refused}
 use Rattle.line.specs.Text.{Within}
 use Rattle.line.specs.Answer.{numbers, text_of, accept_word, collide_word, refuse_word, line, line_of, longest, answer_for, buffer_after, paper_written, written, written_in}
 use Rattle.lent.specs.Lent.{over, fitted}
@@ -88,11 +87,11 @@ line_fits (refuse number train) w =
 
 -- ---- To have written
 
-pub answer_room : (text : List ℕ) (at room : ℕ) → at + length text ≤ room → answer_for text at room ≡ Length (at + length text)
+pub answer_room : (text : List ℕ) (at room : ℕ) → at + length text ≤ room → answer_for text at room ≡ Ok (at + length text)
 unfolding answer_for
 answer_room text at room h = simp (le-ltb room (at + length text) h)
 
-answer_none : (text : List ℕ) (at room : ℕ) → room < at + length text → answer_for text at room ≡ Refused BufferTooShort
+answer_none : (text : List ℕ) (at room : ℕ) → room < at + length text → answer_for text at room ≡ Err BufferTooShort
 unfolding answer_for
 answer_none text at room h = simp (lt-ltb room (at + length text) h)
 
@@ -112,7 +111,7 @@ put_short text at room = (
   where
     go :
         (b : Bool) → ltb room (at + length text) ≡ b →
-        paper_written (cond b (Refused BufferTooShort) (Length (at + length text))) ≡ refusals.refuse 8 64 → room < at + length text
+        paper_written (cond b (Err BufferTooShort) (Ok (at + length text))) ≡ refusals.refuse 8 64 → room < at + length text
     go true t e = ltb-true room (at + length text) t
     go false t e = absurd (omega (arith, ap is_refuse e))
 
@@ -130,17 +129,10 @@ pub write_answers :
 write_answers v room h =
     put_answers (line_of v) 0 room (omega arith) ∙ ap refusals.answers (zero-add (length (line_of v)))
 
--- what the test of the numbers says
-pub numbers_fit : (n room : ℕ) (fits : Bool) → fits ≡ leb n room → fits ≡ true → n ≤ room
-numbers_fit n room fits e t = leb-true n room (sym e ∙ t)
-
-pub numbers_short : (n room : ℕ) (fits : Bool) → fits ≡ leb n room → fits ≡ false → room < n
-numbers_short n room fits e t = leb-false n room (sym e ∙ t)
-
 -- a text without room
 pub put_none :
     (text before : List ℕ) (at : ℕ) → length before < at + length text →
-    (Refused BufferTooShort ≡ answer_for text at (length before)) × (before ≡ buffer_after (Refused BufferTooShort) text at before)
+    (Err BufferTooShort ≡ answer_for text at (length before)) × (before ≡ buffer_after (Err BufferTooShort) text at before)
 unfolding buffer_after
 put_none text before at h = (sym (answer_none text at (length before) h), refl)
 
@@ -148,26 +140,29 @@ put_none text before at h = (sym (answer_none text at (length before) h), refl)
 pub put_all :
     (word ns before m after : List ℕ) (at next end : ℕ) → at + length word ≡ next → end ≡ next + length (numbers ns) →
     end ≤ length before → m ≡ fitted before at word → after ≡ over m next (numbers ns) →
-    (Length end ≡ answer_for (text_of word ns) at (length before)) × (after ≡ buffer_after (Length end) (text_of word ns) at before)
+    (Ok end ≡ answer_for (text_of word ns) at (length before)) × (after ≡ buffer_after (Ok end) (text_of word ns) at before)
 unfolding buffer_after
 put_all word ns before m after at next end e f h w v =
     let whole : end ≡ at + length (text_of word ns) = omega (arith, length-append word (numbers ns)) in (
-      ap Length whole ∙ sym (answer_room (text_of word ns) at (length before) (omega arith)),
+      ap (λ (n : ℕ). Ok n) whole ∙ sym (answer_room (text_of word ns) at (length before) (omega arith)),
       v ∙ over_then before m word (numbers ns) at next (omega arith) e (w ∙ fitted_room before at word (omega arith)),
     )
 
 -- ---- The line of a verdict
 
-pub accept_line : (figures : Figures) → text_of accept_word (figures.multiple ∷ figures.divisions ∷ []) ≡ line_of (verdicts.Accepted figures)
+pub accept_line :
+    (figures : Figures) (multiple divisions : ℕ) → multiple ≡ figures.multiple → divisions ≡ figures.divisions →
+    text_of accept_word (multiple ∷ divisions ∷ []) ≡ line_of (verdicts.Accepted figures)
 unfolding line
-accept_line figures = refl
+accept_line figures multiple divisions p q = λ i. text_of accept_word (p i ∷ q i ∷ [])
 
 pub collide_line :
-    (meeting : Meeting) (figures : Figures) →
-    text_of collide_word (meeting.first ∷ meeting.second ∷ meeting.tick ∷ figures.multiple ∷ figures.divisions ∷ [])
+    (meeting : Meeting) (figures : Figures) (multiple divisions : ℕ) → multiple ≡ figures.multiple → divisions ≡ figures.divisions →
+    text_of collide_word (meeting.first ∷ meeting.second ∷ meeting.tick ∷ multiple ∷ divisions ∷ [])
     ≡ line_of (verdicts.Collide meeting figures)
 unfolding line
-collide_line meeting figures = refl
+collide_line meeting figures multiple divisions p q =
+    λ i. text_of collide_word (meeting.first ∷ meeting.second ∷ meeting.tick ∷ p i ∷ q i ∷ [])
 
 pub refuse_line :
     (refusal : Refusal) (number place : ℕ) →
@@ -178,12 +173,12 @@ refuse_line refusal number place p q = λ i. text_of refuse_word (p i ∷ q i �
 
 -- what `put` wrote at the front for the verdict that was matched is what `write` promises
 pub put_line :
-    (verdict matched : Verdict) (text before after : List ℕ) (answer : Written) →
+    (verdict matched : Verdict) (text before after : List ℕ) (answer : Result ℕ Refusal) →
     verdict ≡ matched → Within (paper matched) → text ≡ line_of matched →
     answer ≡ answer_for text 0 (length before) → after ≡ buffer_after answer text 0 before →
     (answer ≡ written verdict (length before))
     × (after ≡ written_in answer verdict before)
-    × (longest ≤ length before → answer ≡ Length (length (line_of verdict)))
+    × (longest ≤ length before → answer ≡ Ok (length (line_of verdict)))
 put_line verdict matched text before after answer v within t a b =
     let e : text ≡ line_of verdict = t ∙ ap line_of (sym v) in
     let fits : length (line_of verdict) ≤ longest =
@@ -191,5 +186,5 @@ put_line verdict matched text before after answer v within t a b =
     let said : answer ≡ written verdict (length before) = a ∙ ap (λ (l : List ℕ). answer_for l 0 (length before)) e in (
       said,
       b ∙ ap (λ (l : List ℕ). buffer_after answer l 0 before) e,
-      λ h. said ∙ answer_room (line_of verdict) 0 (length before) (omega arith) ∙ ap Length (zero-add (length (line_of verdict))),
+      λ h. said ∙ answer_room (line_of verdict) 0 (length before) (omega arith) ∙ ap (λ (n : ℕ). Ok n) (zero-add (length (line_of verdict))),
     )

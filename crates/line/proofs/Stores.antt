@@ -54,6 +54,12 @@ numbers_last ns i h k =
     let e : i ≡ length ns = omega arith in
     ap (λ (n : ℕ). numbers (drop n ns)) e ∙ ap numbers (drop-length ns)
 
+-- the newline at least
+pub numbers_some : (ns : List ℕ) → 0 < length (numbers ns)
+unfolding numbers
+numbers_some [] = omega arith
+numbers_some (n ∷ ns) = omega arith
+
 -- ---- The loop that counts them
 
 -- What is taken from the room is what the numbers before i need.

@@ -13,15 +13,14 @@
 --     paper_written answer                      what the paper has of an answer: where the line ends, or the refusal
 --     written verdict room                      what `write` answers
 --     written_in answer verdict before          what it leaves in the buffer
-use Rattle.std.specs.Prelude.{ℕ, ◌+◌, cond, List, [], ◌∷◌, ◌++◌, ltb, length}
+use Rattle.std.specs.Prelude.{ℕ, ◌+◌, cond, List, [], ◌∷◌, ◌++◌, ltb, length, Result, Ok, Err}
 use Rattle.lent.specs.Lent.{over}
 use Rattle.decimal.specs.Answer.{decimal}
+use Rattle.refusal.specs.declared.Refusal.{Refusal}
 use Rattle.refusal.specs.declared.Refusal.TheVariants.{BufferTooShort}
 use Rattle.refusal.specs.Paper.{Said, answers, refusing}
 use Rattle.judge.specs.declared.Verdict.{Verdict}
 use Rattle.judge.specs.Paper.{Shown, accept, collide, refuse, paper}
-use Rattle.line.specs.declared.Written.{Written}
-use Rattle.line.specs.declared.Written.TheVariants.{Length, Refused}
 
 -- The byte of a space.
 abbrev pub space : ℕ
@@ -71,23 +70,23 @@ abbrev pub longest : ℕ
 longest = 93
 
 -- Of a text for a buffer it is answered where it ends, or the refusal (the paper's number 8) of a buffer that ends earlier.
-unfoldable pub answer_for : (text : List ℕ) (at room : ℕ) → Written
-answer_for text at room = cond (ltb room (at + length text)) (Refused BufferTooShort) (Length (at + length text))
+unfoldable pub answer_for : (text : List ℕ) (at room : ℕ) → Result ℕ Refusal
+answer_for text at room = cond (ltb room (at + length text)) (Err BufferTooShort) (Ok (at + length text))
 
 -- After an end the buffer has the text at its index and all else as it was; after a refusal it has every byte that it had.
-unfoldable pub buffer_after : Written → (text : List ℕ) (at : ℕ) (before : List ℕ) → List ℕ
-buffer_after (Length end) text at before = over before at text
-buffer_after (Refused refusal) text at before = before
+unfoldable pub buffer_after : Result ℕ Refusal → (text : List ℕ) (at : ℕ) (before : List ℕ) → List ℕ
+buffer_after (Ok end) text at before = over before at text
+buffer_after (Err refusal) text at before = before
 
 -- What the paper has of an answer.
-abbrev pub paper_written : Written → Said
-paper_written (Length end) = answers end
-paper_written (Refused refusal) = refusing refusal
+abbrev pub paper_written : Result ℕ Refusal → Said
+paper_written (Ok end) = answers end
+paper_written (Err refusal) = refusing refusal
 
 -- What `write` answers: the line is written to the front.
-abbrev pub written : (verdict : Verdict) (room : ℕ) → Written
+abbrev pub written : (verdict : Verdict) (room : ℕ) → Result ℕ Refusal
 written verdict room = answer_for (line_of verdict) 0 room
 
 -- What it leaves in the buffer.
-abbrev pub written_in : Written → Verdict → (before : List ℕ) → List ℕ
+abbrev pub written_in : Result ℕ Refusal → Verdict → (before : List ℕ) → List ℕ
 written_in answer verdict before = buffer_after answer (line_of verdict) 0 before

@@ -2,26 +2,15 @@
 // No public call has a `requires`: a lent buffer that is too short is refused, and nothing is written to it.
 #![tactic(auto)]
 
-ghost use Rattle.std.specs.Prelude.{◌≡◌, ◌+◌, ◌≤◌, leb, length};
+ghost use Rattle.std.specs.Prelude.{◌≡◌, ◌+◌, ◌≤◌, leb, length, Ok};
 ghost use Rattle.line.specs.Answer.{spaced, numbers, text_of, line_of, longest, answer_for, buffer_after, written, written_in};
 ghost use Rattle.lent.specs.Lent.{over};
 
 use judge::Verdict;
 use refusal::Refusal;
 
-// What `put` and `write` answer.
-#[derive(Clone, Copy)]
-pub enum Written {
-    // The line stands in the buffer, and the bytes up to its end are so many: its own, where it stands at the front.
-    Length(usize),
-    // Nothing was written.
-    Refused(Refusal),
-}
-
-impl Written {
-    // The longest line of any verdict: a buffer of this length is never refused.
-    pub const LONGEST: usize = 93;
-}
+// The longest line of any verdict: a buffer of this length is never refused.
+pub const LONGEST: usize = 93;
 
 // Writes a space and n at `at`, and answers where they end.
 fn put_number(out: &mut [u8], at: usize, n: u64) -> usize
@@ -39,14 +28,12 @@ fn fit(values: &[u64], room: usize) -> bool
     ensures { result ≡ leb (length (numbers values.now)) room }
 {
     let mut left = room;
-    let mut i = 0;
-    while i < values.len() {
-        let taken = decimal::width(values[i]) + 1;
+    for value in values {
+        let taken = decimal::width(*value) + 1;
         if left < taken {
             return false;
         }
         left -= taken;
-        i += 1;
     }
     1 <= left
 }
@@ -58,10 +45,8 @@ fn put_numbers(values: &[u64], out: &mut [u8], at: usize) -> usize
     ensures bytes { out.new ≡ over out.old at (numbers values.now) }
 {
     let mut next = at;
-    let mut i = 0;
-    while i < values.len() {
-        next = put_number(out, next, values[i]);
-        i += 1;
+    for value in values {
+        next = put_number(out, next, *value);
     }
     out[next] = b'\n';
     next + 1
@@ -69,51 +54,43 @@ fn put_numbers(values: &[u64], out: &mut [u8], at: usize) -> usize
 
 // Writes the line of a word and its numbers at `at`, and answers where it ends; what stands before and behind is kept.
 // A buffer without room for all of it there is refused, and keeps every byte.
-pub fn put(word: &[u8], values: &[u64], out: &mut [u8], at: usize) -> Written
+pub fn put(word: &[u8], values: &[u64], out: &mut [u8], at: usize) -> Result<usize, Refusal>
     ensures answer { result ≡ answer_for (text_of word.now values.now) at (length out.old) }
     ensures bytes { out.new ≡ buffer_after result (text_of word.now values.now) at out.old }
 {
-    if out.len() < at {
-        return Written::Refused(Refusal::BufferTooShort);
-    }
-    let room = out.len() - at;
-    if room < word.len() {
-        return Written::Refused(Refusal::BufferTooShort);
-    }
-    if !fit(values, room - word.len()) {
-        return Written::Refused(Refusal::BufferTooShort);
+    let room = out.len().saturating_sub(at);
+    if room < word.len() || !fit(values, room - word.len()) {
+        return Err(Refusal::BufferTooShort);
     }
     lent::put(word, out, at);
-    let end = put_numbers(values, out, at + word.len());
-    Written::Length(end)
+    Ok(put_numbers(values, out, at + word.len()))
 }
 
 // Writes the line of a verdict to the front of `out`, and answers how many bytes it has; what follows them is kept.
 // A buffer that is too short for all of them is refused, and keeps every byte.
-pub fn write(verdict: Verdict, out: &mut [u8]) -> Written
+pub fn write(verdict: Verdict, out: &mut [u8]) -> Result<usize, Refusal>
     ensures answer { result ≡ written verdict (length out.old) }
     ensures bytes { out.new ≡ written_in result verdict out.old }
-    ensures constant { Written.LONGEST ≡ longest }
-    ensures suffices { longest ≤ length out.old → result ≡ Written.Length (length (line_of verdict)) }
+    ensures constant { LONGEST ≡ longest }
+    ensures suffices { longest ≤ length out.old → result ≡ Ok (length (line_of verdict)) }
 {
     match verdict {
         Verdict::Accepted(figures) => {
-            let multiple = figures.multiple as u64;
-            let divisions = figures.divisions as u64;
+            let multiple = u64::from(figures.multiple);
+            let divisions = u64::from(figures.divisions);
             let values = [multiple, divisions];
             put(b"accept", &values, out, 0)
         }
         Verdict::Collide(meeting, figures) => {
             let first = meeting.first as u64;
             let second = meeting.second as u64;
-            let tick = meeting.tick;
-            let multiple = figures.multiple as u64;
-            let divisions = figures.divisions as u64;
-            let values = [first, second, tick, multiple, divisions];
+            let multiple = u64::from(figures.multiple);
+            let divisions = u64::from(figures.divisions);
+            let values = [first, second, meeting.tick, multiple, divisions];
             put(b"collide", &values, out, 0)
         }
         Verdict::Refused(refusal) => {
-            let number = refusal.number() as u64;
+            let number = u64::from(refusal.number());
             let place = refusal.place() as u64;
             let values = [number, place];
             put(b"refuse", &values, out, 0)
