@@ -76,11 +76,8 @@ impl Fraction {
     {
         let time = product(self.numerator, tick.denominator);
         let unit = product(self.denominator, tick.numerator);
-        if unit != 0 && time % unit == 0 {
-            Some(time / unit)
-        } else {
-            None
-        }
+        let rest = time.checked_rem(unit)?;
+        (rest == 0).then_some(time / unit)
     }
 }
 
@@ -97,10 +94,6 @@ pub fn including(multiple: Option<u32>, denominator: u32) -> Option<u32>
 fn least(a: u32, b: u32) -> Option<u32>
     ensures { result ≡ limited (lcm a b) }
 {
-    let multiple = product(part(a, divisor_of(a, b)), b);
-    if multiple <= u64::from(LIMIT) {
-        Some(multiple as u32)
-    } else {
-        None
-    }
+    let multiple = u32::try_from(product(part(a, divisor_of(a, b)), b)).ok()?;
+    (multiple <= LIMIT).then_some(multiple)
 }

@@ -86,12 +86,8 @@ fn time_at(row: &[u32], at: usize) -> Fraction
 fn ticks_within(time: Fraction, tick: Fraction) -> Option<u32>
     ensures { result ≡ timed (whole_ticks time tick) }
 {
-    let whole = time.ticks(tick)?;
-    if whole <= u64::from(Train::MAX_TICKS) {
-        Some(whole as u32)
-    } else {
-        None
-    }
+    let whole = u32::try_from(time.ticks(tick)?).ok()?;
+    (whole <= Train::MAX_TICKS).then_some(whole)
 }
 
 impl Entry {
