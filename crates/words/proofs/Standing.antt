@@ -11,10 +11,12 @@ use borrow.Author.Tests.{eqb-false}
 use Rattle.lent.specs.Lent.{over}
 use Rattle.lent.proofs.Over.{over_sets, over_before, over_there, over_behind}
 use Rattle.std.specs.Prelude.{Option, Some, None}
+use Rattle.dispatcher.specs.declared.Held.{Held}
+use Rattle.dispatcher.specs.declared.Held.TheVariants.{Empty, Holds}
 use Rattle.dispatcher.specs.declared.Place.{Place}
 use Rattle.dispatcher.specs.declared.Dispatcher.{Dispatcher}
 use Rattle.dispatcher.specs.History.{place_count}
-use Rattle.dispatcher.specs.Answer.{Held, lowest_place, empty_place, put}
+use Rattle.dispatcher.specs.Answer.{lowest_place, empty_place, put}
 use Rattle.words.specs.Answer.{fresh_in}
 use Rattle.words.specs.Record.{place_length, last_at, word_count, place_in, places_from, places_in, record_in, held_words, place_words, tail_words, words_of, place_over, tail_over}
 
@@ -92,18 +94,18 @@ lowest_at test ws found h = by found h
 -- what a place is, by its words
 abbrev place_of : (flag next period duration : ℕ) → Place
 place_of flag next period duration =
-    cond (eqb flag 0) empty_place (record { held = Some (record { next = next; period = period; duration = duration }) })
+    cond (eqb flag 0) empty_place (record { held = Holds (record { next = next; period = period; duration = duration }) })
 
 -- the words of a place are read as that place
 held_read :
     (h : Held) →
     place_of (get_or (held_words h) 0 0) (get_or (held_words h) 1 0) (get_or (held_words h) 2 0) (get_or (held_words h) 3 0) ≡ record { held = h }
-held_read None = refl
-held_read (Some p) = refl
+held_read Empty = refl
+held_read (Holds p) = refl
 
 pub four : (h : Held) → length (held_words h) ≡ 4
-four None = refl
-four (Some p) = refl
+four Empty = refl
+four (Holds p) = refl
 
 -- places are equal where their words are
 same_words :

@@ -12,13 +12,15 @@
 --     words_of d               the words of a record
 --     place_over ws q place    the words with those of a place written over place q
 --     tail_over ws d           the words with the last count and the run in progress of a record
-use Rattle.std.specs.Prelude.{ℕ, zero, suc, ◌+◌, ◌*◌, cond, List, [], ◌∷◌, ◌++◌, ◌==◌, slice_index, Some, None}
+use Rattle.std.specs.Prelude.{ℕ, zero, suc, ◌+◌, ◌*◌, cond, List, [], ◌∷◌, ◌++◌, ◌==◌, slice_index}
 use mathlib.Core.List.{flat_map}
 use Rattle.std.proofs.lemmas.List.Edits.{sets}
+use Rattle.dispatcher.specs.declared.Held.{Held}
+use Rattle.dispatcher.specs.declared.Held.TheVariants.{Empty, Holds}
 use Rattle.dispatcher.specs.declared.Place.{Place}
 use Rattle.dispatcher.specs.declared.Dispatcher.{Dispatcher}
 use Rattle.dispatcher.specs.History.{place_count}
-use Rattle.dispatcher.specs.Answer.{Held, empty_place}
+use Rattle.dispatcher.specs.Answer.{empty_place}
 
 -- A place has four words.
 abbrev pub place_length : ℕ
@@ -38,7 +40,7 @@ place_in ws q =
     cond (slice_index ws (q * place_length) == 0) empty_place
     (record {
       held =
-          Some
+          Holds
           (record {
             next = slice_index ws (q * place_length + 1);
             period = slice_index ws (q * place_length + 2);
@@ -66,8 +68,8 @@ record_in ws =
 
 -- The words of what a place holds: an empty one is all zeros, and a train has a 1 before it.
 abbrev pub held_words : Held → List ℕ
-held_words None = 0 ∷ 0 ∷ 0 ∷ 0 ∷ []
-held_words (Some p) = 1 ∷ p.next ∷ p.period ∷ p.duration ∷ []
+held_words Empty = 0 ∷ 0 ∷ 0 ∷ 0 ∷ []
+held_words (Holds p) = 1 ∷ p.next ∷ p.period ∷ p.duration ∷ []
 
 -- The words of a place.
 abbrev pub place_words : Place → List ℕ

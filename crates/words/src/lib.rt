@@ -10,7 +10,7 @@ ghost use Rattle.dispatcher.specs.Answer.{is_sought, lowest_place};
 ghost use Rattle.words.specs.Record.{last_at, word_count, place_in, places_in, record_in, place_words, place_over};
 ghost use Rattle.words.specs.Answer.{admission_in, withdrawal_in, stepping_in, fresh_in, admitted_in, withdrew_in, stepped_in};
 
-use dispatcher::{Dispatcher, Place, Placed, Run, Sought, Tick};
+use dispatcher::{Dispatcher, Held, Place, Placed, Run, Sought, Tick};
 use refusal::Refusal;
 use train::Train;
 
@@ -37,10 +37,10 @@ fn place_at(words: &[u32; LENGTH], place: usize) -> Place
 {
     let at = place * PLACE;
     if words[at] == 0 {
-        return Place { held: None };
+        return Place { held: Held::Empty };
     }
     Place {
-        held: Some(Placed {
+        held: Held::Holds(Placed {
             next: words[at + 1],
             period: words[at + 2],
             duration: words[at + 3],
@@ -72,8 +72,8 @@ fn words_of(here: Place) -> [u32; PLACE]
     ensures { result ≡ place_words here }
 {
     match here.held {
-        None => [0; PLACE],
-        Some(placed) => [1, placed.next, placed.period, placed.duration],
+        Held::Empty => [0; PLACE],
+        Held::Holds(placed) => [1, placed.next, placed.period, placed.duration],
     }
 }
 
@@ -129,7 +129,13 @@ pub fn admit(
         period,
         duration,
     };
-    put_place(words, empty, Place { held: Some(placed) });
+    put_place(
+        words,
+        empty,
+        Place {
+            held: Held::Holds(placed),
+        },
+    );
     Ok(empty)
 }
 
@@ -144,7 +150,7 @@ pub fn withdraw(words: &mut [u32; LENGTH], place: usize) -> Result<(), Refusal>
     }
     let run = run_at(words);
     let last = words[LAST];
-    put_place(words, place, Place { held: None });
+    put_place(words, place, Place { held: Held::Empty });
     put_tail(words, last, run.ended(place));
     Ok(())
 }
