@@ -2,12 +2,10 @@
 -- Core: none; each goes by the cases of its answer.
 -- Assumes nothing.
 use Prim.Native.Nat.{ℕ}
+use Rattle.std.specs.Prelude.{Some, Result, Ok, Err, ⊤}
+use Rattle.refusal.specs.declared.Refusal.{Refusal}
 use mathlib.Core.Path.{◌≡◌, refl}
 use Rattle.dispatcher.specs.declared.Dispatcher.{Dispatcher}
-use Rattle.dispatcher.specs.declared.Admission.{Admission}
-use Rattle.dispatcher.specs.declared.Admission.TheVariants as admissions
-use Rattle.dispatcher.specs.declared.Withdrawal.{Withdrawal}
-use Rattle.dispatcher.specs.declared.Withdrawal.TheVariants as withdrawals
 use Rattle.dispatcher.specs.declared.Tick.{Tick}
 use Rattle.dispatcher.specs.declared.Tick.TheVariants as ticks
 use Rattle.dispatcher.specs.Calls.{admit, withdraw, step}
@@ -19,33 +17,33 @@ use Rattle.reply.specs.Answer.{shown_admission, shown_withdrawal, shown_tick, sh
 
 pub admit_shown :
     (d : Dispatcher) (delay period duration : ℕ) →
-    (shown d (Admit delay period duration) ≡ shown_event (event_of d (admit delay period duration)))
-    × (after d (Admit delay period duration) ≡ record_after d (admit delay period duration))
+    (shown d (Some (Admit delay period duration)) ≡ shown_event (event_of d (admit delay period duration)))
+    × (after d (Some (Admit delay period duration)) ≡ record_after d (admit delay period duration))
 unfolding shown after event_of record_after
 admit_shown d delay period duration = (go (admission d (record { phase = delay; period = period; duration = duration })).answer, refl)
   where
-    go : (a : Admission) → shown_admission a ≡ shown_event (admission_event delay period duration a)
-    go (admissions.At q) = refl
-    go (admissions.Refused r) = refl
+    go : (a : Result ℕ Refusal) → shown_admission a ≡ shown_event (admission_event delay period duration a)
+    go (Ok q) = refl
+    go (Err r) = refl
 
 pub withdraw_shown :
     (d : Dispatcher) (q : ℕ) →
-    (shown d (Withdraw q) ≡ shown_event (event_of d (withdraw q))) × (after d (Withdraw q) ≡ record_after d (withdraw q))
+    (shown d (Some (Withdraw q)) ≡ shown_event (event_of d (withdraw q))) × (after d (Some (Withdraw q)) ≡ record_after d (withdraw q))
 unfolding shown after event_of record_after
 withdraw_shown d q = (go (withdrawal d q).answer, refl)
   where
-    go : (w : Withdrawal) → shown_withdrawal w ≡ shown_event (withdrawal_event q w)
-    go withdrawals.Withdrawn = refl
-    go (withdrawals.Refused r) = refl
+    go : (w : Result ⊤ Refusal) → shown_withdrawal w ≡ shown_event (withdrawal_event q w)
+    go (Ok tt) = refl
+    go (Err r) = refl
 
 pub step_shown :
     (d : Dispatcher) (count : ℕ) →
-    (shown d (Step count) ≡ shown_event (event_of d (step count))) × (after d (Step count) ≡ record_after d (step count))
+    (shown d (Some (Step count)) ≡ shown_event (event_of d (step count))) × (after d (Some (Step count)) ≡ record_after d (step count))
 unfolding shown after event_of record_after
 step_shown d count = (go (stepping d count).answer, refl)
   where
-    go : (t : Tick) → shown_tick t ≡ shown_event (tick_event count t)
-    go ticks.Idle = refl
-    go (ticks.Starts q) = refl
-    go (ticks.GoesOn q) = refl
-    go (ticks.Refused r) = refl
+    go : (t : Result Tick Refusal) → shown_tick t ≡ shown_event (tick_event count t)
+    go (Ok ticks.Idle) = refl
+    go (Ok (ticks.Starts q)) = refl
+    go (Ok (ticks.GoesOn q)) = refl
+    go (Err r) = refl

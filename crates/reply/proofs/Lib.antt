@@ -1,5 +1,4 @@
--- The laws of reply. Promises gathers what specs/Promises.antt states; the others serve the functions.
+-- The laws of reply. Promises gathers what specs/Promises.antt states; `play` cites that no line is longer, in Texts.
 pub mod Texts
-pub mod Replies
 pub mod Events
 pub mod Promises

@@ -1,5 +1,5 @@
 -- What is proved of the printed lines, a line each; proofs/Promises.antt proves the whole record.
-use Rattle.std.specs.Prelude.{ℕ, ◌≤◌, ◌≡◌, [], ◌∷◌, length}
+use Rattle.std.specs.Prelude.{ℕ, ◌≤◌, ◌≡◌, [], ◌∷◌, length, Some}
 use Rattle.dispatcher.specs.declared.Dispatcher.{Dispatcher}
 use Rattle.dispatcher.specs.Calls as calls
 use Rattle.dispatcher.specs.Played.{event_of, record_after}
@@ -13,14 +13,14 @@ pub record Promises : Type 0 where
   -- after it: so what is promised of logs is promised of what is printed.
   pub admit_shown :
       (d : Dispatcher) (delay period duration : ℕ) →
-      (shown d (Admit delay period duration) ≡ shown_event (event_of d (calls.admit delay period duration)))
-      × (after d (Admit delay period duration) ≡ record_after d (calls.admit delay period duration))
+      (shown d (Some (Admit delay period duration)) ≡ shown_event (event_of d (calls.admit delay period duration)))
+      × (after d (Some (Admit delay period duration)) ≡ record_after d (calls.admit delay period duration))
   pub withdraw_shown :
       (d : Dispatcher) (q : ℕ) →
-      (shown d (Withdraw q) ≡ shown_event (event_of d (calls.withdraw q))) × (after d (Withdraw q) ≡ record_after d (calls.withdraw q))
+      (shown d (Some (Withdraw q)) ≡ shown_event (event_of d (calls.withdraw q))) × (after d (Some (Withdraw q)) ≡ record_after d (calls.withdraw q))
   pub step_shown :
       (d : Dispatcher) (count : ℕ) →
-      (shown d (Step count) ≡ shown_event (event_of d (calls.step count))) × (after d (Step count) ≡ record_after d (calls.step count))
+      (shown d (Some (Step count)) ≡ shown_event (event_of d (calls.step count))) × (after d (Some (Step count)) ≡ record_after d (calls.step count))
   -- Nothing is lost in print: two lines of the same bytes have the same word and the same numbers.
   pub line_tells : (s t : Shown) → line_of s ≡ line_of t → s ≡ t
   -- No line of numbers within their types is longer than the longest, and one is as long.

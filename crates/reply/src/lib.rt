@@ -2,15 +2,13 @@
 // written to a lent buffer. `play` has no `requires`: without room for the longest line nothing is called.
 #![tactic(auto)]
 
-ghost use Rattle.std.specs.Prelude.{◌≡◌, ◌+◌, ◌≤◌, ltb, length};
-ghost use Rattle.dispatcher.specs.Answer.{admission, withdrawal, stepping, fresh as fresh·record};
-ghost use Rattle.line.specs.Answer.{buffer_after};
-ghost use Rattle.reply.specs.Lines.{fresh as fresh·line, bad as bad·line, longest};
-ghost use Rattle.reply.specs.Answer.{shown_refusal, shown_admission, shown_withdrawal, shown_tick, reply_to, played};
-ghost use Rattle.reply.specs.Inside.{Wrote, Replied};
+ghost use Rattle.std.specs.Prelude.{◌≡◌, ◌+◌, ◌≤◌, length, IsOk, IfOk, MatchResult};
+ghost use Rattle.line.specs.Answer.{answer_for, buffer_after};
+ghost use Rattle.reply.specs.Lines.{Within, line_of, longest};
+ghost use Rattle.reply.specs.Answer.{shown, after, reply_to, played};
+ghost use Rattle.reply.specs.Inside.{shown_of};
 
-use dispatcher::{Admission, Dispatcher, Tick, Withdrawal};
-use line::Written;
+use dispatcher::{Called, Dispatcher, Tick};
 use refusal::Refusal;
 use script::Call;
 
@@ -18,7 +16,7 @@ use script::Call;
 #[derive(Clone, Copy)]
 pub struct Played {
     // Where the printed line ends, or that the buffer is too short.
-    pub written: Written,
+    pub written: Result<usize, Refusal>,
     // The dispatcher after the call, or as it came where the buffer is too short.
     pub dispatcher: Dispatcher,
 }
@@ -29,177 +27,98 @@ impl Played {
     pub const LONGEST: usize = 39;
 }
 
-// ---- answers
-
-// Writes the line of a refusal.
-fn put_refusal(refusal: Refusal, out: &mut [u8], at: usize) -> Written
-    ensures { Wrote (shown_refusal refusal) at out.old out.new result }
-{
-    let number = refusal.number() as u64;
-    let place = refusal.place() as u64;
-    let values = [number, place];
-    line::put(b"refuse", &values, out, at)
+// What is printed for a call.
+#[derive(Clone, Copy)]
+enum Printed {
+    // The line says no call.
+    Bad,
+    Fresh,
+    Place(usize),
+    Withdrawn,
+    Tick(Tick),
+    Refuse(Refusal),
 }
 
-// Writes the line of an admission.
-fn put_admission(answer: Admission, out: &mut [u8], at: usize) -> Written
-    ensures { Wrote (shown_admission answer) at out.old out.new result }
+// What is printed for the answer of a call: the line of its value, or that of the refusal.
+fn print<A, F: FnOnce(A) -> Printed>(called: Called<Result<A, Refusal>>, line: F) -> Called<Printed>
+    requires { F.IsAlwaysCallable line }
+    ensures answer { MatchResult called.answer
+        (λ value. F.post line value result.answer) (λ refusal. result.answer ≡ Printed.Refuse refusal) }
+    ensures dispatcher { result.dispatcher ≡ called.dispatcher }
 {
-    match answer {
-        Admission::At(place) => {
-            let values = [place as u64];
-            line::put(b"place", &values, out, at)
+    let Called { answer, dispatcher } = called;
+    Called {
+        answer: answer.map_or_else(Printed::Refuse, line),
+        dispatcher,
+    }
+}
+
+// Makes the call that a line says, if it says one.
+#[tactic(auto, unfolding(crate::specs::Answer::shown, crate::specs::Answer::after))]
+fn call(dispatcher: Dispatcher, said: Option<Call>) -> Called<Printed>
+    ensures answer { shown_of result.answer ≡ shown dispatcher said }
+    ensures dispatcher { result.dispatcher ≡ after dispatcher said }
+{
+    match said {
+        None => Called {
+            answer: Printed::Bad,
+            dispatcher,
+        },
+        Some(Call::Fresh(count)) => Called {
+            answer: Printed::Fresh,
+            dispatcher: Dispatcher::fresh(count),
+        },
+        Some(Call::Admit(delay, period, duration)) => {
+            print(dispatcher.admit(delay, period, duration), Printed::Place)
         }
-        Admission::Refused(refusal) => put_refusal(refusal, out, at),
-    }
-}
-
-// Writes the line of a withdrawal.
-fn put_withdrawal(answer: Withdrawal, out: &mut [u8], at: usize) -> Written
-    ensures { Wrote (shown_withdrawal answer) at out.old out.new result }
-{
-    match answer {
-        Withdrawal::Withdrawn => {
-            let values: [u64; 0] = [];
-            line::put(b"withdrawn", &values, out, at)
+        Some(Call::Withdraw(place)) => {
+            print(dispatcher.withdraw(place as usize), |_| Printed::Withdrawn)
         }
-        Withdrawal::Refused(refusal) => put_refusal(refusal, out, at),
+        Some(Call::Step(count)) => print(dispatcher.step(count), Printed::Tick),
     }
 }
 
-// Writes the line of a step.
-fn put_tick(answer: Tick, out: &mut [u8], at: usize) -> Written
-    ensures { Wrote (shown_tick answer) at out.old out.new result }
+// Writes the line of what is printed at an index, if there is room for it.
+#[tactic(auto, unfolding(crate::specs::Lines::line_of))]
+fn put(printed: Printed, out: &mut [u8], at: usize) -> Result<usize, Refusal>
+    ensures within { Within (shown_of printed) }
+    ensures answer { result ≡ answer_for (line_of (shown_of printed)) at (length out.old) }
+    ensures bytes { out.new ≡ buffer_after result (line_of (shown_of printed)) at out.old }
 {
-    match answer {
-        Tick::Idle => {
-            let values: [u64; 0] = [];
-            line::put(b"idle", &values, out, at)
+    match printed {
+        Printed::Bad => line::put(b"bad", &[], out, at),
+        Printed::Fresh => line::put(b"fresh", &[], out, at),
+        Printed::Place(place) => line::put(b"place", &[place as u64], out, at),
+        Printed::Withdrawn => line::put(b"withdrawn", &[], out, at),
+        Printed::Tick(Tick::Idle) => line::put(b"idle", &[], out, at),
+        Printed::Tick(Tick::Starts(place)) => line::put(b"starts", &[place as u64], out, at),
+        Printed::Tick(Tick::GoesOn(place)) => line::put(b"goes-on", &[place as u64], out, at),
+        Printed::Refuse(refusal) => {
+            let values = [u64::from(refusal.number()), refusal.place() as u64];
+            line::put(b"refuse", &values, out, at)
         }
-        Tick::Starts(place) => {
-            let values = [place as u64];
-            line::put(b"starts", &values, out, at)
-        }
-        Tick::GoesOn(place) => {
-            let values = [place as u64];
-            line::put(b"goes-on", &values, out, at)
-        }
-        Tick::Refused(refusal) => put_refusal(refusal, out, at),
     }
-}
-
-// ---- calls
-
-fn bad(dispatcher: Dispatcher, out: &mut [u8], at: usize) -> Played
-    requires { at + longest ≤ length out.old }
-    ensures { Replied bad·line dispatcher at out.old out.new result }
-{
-    let values: [u64; 0] = [];
-    let written = line::put(b"bad", &values, out, at);
-    Played {
-        written: written,
-        dispatcher: dispatcher,
-    }
-}
-
-fn fresh(count: u32, out: &mut [u8], at: usize) -> Played
-    requires { at + longest ≤ length out.old }
-    ensures { Replied fresh·line (fresh·record count) at out.old out.new result }
-{
-    let after = Dispatcher::fresh(count);
-    let values: [u64; 0] = [];
-    let written = line::put(b"fresh", &values, out, at);
-    Played {
-        written: written,
-        dispatcher: after,
-    }
-}
-
-fn admit(
-    dispatcher: Dispatcher,
-    delay: u32,
-    period: u32,
-    duration: u32,
-    out: &mut [u8],
-    at: usize,
-) -> Played
-    requires { at + longest ≤ length out.old }
-    ensures { Replied
-        (shown_admission (admission dispatcher (record { phase = delay; period = period; duration = duration })).answer)
-        (admission dispatcher (record { phase = delay; period = period; duration = duration })).dispatcher
-        at out.old out.new result }
-{
-    let admitted = dispatcher.admit(delay, period, duration);
-    let answer = admitted.answer;
-    let after = admitted.dispatcher;
-    let written = put_admission(answer, out, at);
-    Played {
-        written: written,
-        dispatcher: after,
-    }
-}
-
-fn withdraw(dispatcher: Dispatcher, place: u32, out: &mut [u8], at: usize) -> Played
-    requires { at + longest ≤ length out.old }
-    ensures { Replied
-        (shown_withdrawal (withdrawal dispatcher place).answer) (withdrawal dispatcher place).dispatcher
-        at out.old out.new result }
-{
-    let withdrew = dispatcher.withdraw(place as usize);
-    let answer = withdrew.answer;
-    let after = withdrew.dispatcher;
-    let written = put_withdrawal(answer, out, at);
-    Played {
-        written: written,
-        dispatcher: after,
-    }
-}
-
-fn step(dispatcher: Dispatcher, count: u32, out: &mut [u8], at: usize) -> Played
-    requires { at + longest ≤ length out.old }
-    ensures { Replied
-        (shown_tick (stepping dispatcher count).answer) (stepping dispatcher count).dispatcher
-        at out.old out.new result }
-{
-    let stepped = dispatcher.step(count);
-    let answer = stepped.answer;
-    let after = stepped.dispatcher;
-    let written = put_tick(answer, out, at);
-    Played {
-        written: written,
-        dispatcher: after,
-    }
-}
-
-// Whether a buffer of that length has no room for the longest line behind the index.
-fn short(room: usize, at: usize) -> bool
-    ensures { result ≡ ltb room (at + longest) }
-{
-    if room < at {
-        return true;
-    }
-    room - at < Played::LONGEST
 }
 
 // Makes the call that a line says, which is handed over without its newline, and writes the line of its answer at `at`.
 // Without room for the longest line there nothing is called or written, and the dispatcher is handed back as it came.
+#[tactic(auto, using(crate::proofs::Texts::line_fits, line::proofs::Lines::answer_room), unfolding(crate::specs::Answer::played, line::specs::Answer::buffer_after))]
 pub fn play(dispatcher: Dispatcher, said: &[u8], out: &mut [u8], at: usize) -> Played
     ensures answer { result ≡ played dispatcher said.now at (length out.old) }
     ensures bytes { out.new ≡ buffer_after result.written (reply_to dispatcher said.now) at out.old }
     ensures constants { Played.LONGEST ≡ longest }
+    ensures suffices { at + longest ≤ length out.old → IsOk result.written }
+    ensures within { IfOk result.written (λ end. end ≤ at + longest) }
 {
-    if short(out.len(), at) {
+    if out.len().saturating_sub(at) < Played::LONGEST {
         return Played {
-            written: Written::Refused(Refusal::BufferTooShort),
-            dispatcher: dispatcher,
+            written: Err(Refusal::BufferTooShort),
+            dispatcher,
         };
     }
-    let call = script::read(said);
-    match call {
-        Call::Bad => bad(dispatcher, out, at),
-        Call::Fresh(count) => fresh(count, out, at),
-        Call::Admit(delay, period, duration) => admit(dispatcher, delay, period, duration, out, at),
-        Call::Withdraw(place) => withdraw(dispatcher, place, out, at),
-        Call::Step(count) => step(dispatcher, count, out, at),
+    let Called { answer, dispatcher } = call(dispatcher, script::read(said));
+    Played {
+        written: put(answer, out, at),
+        dispatcher,
     }
 }
