@@ -25,17 +25,14 @@ use Rattle.stored.proofs.Numbers.{answer_is, buffer_is}
 use Rattle.file.specs.Answer.{file_verdict}
 use Rattle.file.proofs.Judging as judging
 
-zero_not_one : ◌≡◌ {A = ℕ} 0 1 → ⊥
-zero_not_one z = omega arith
-
 verdict_tells : Tells paper Refused refuse
 verdict_tells = record { is = λ r. refl; only = found }
   where
     found :
         (v : Verdict) (number train : ℕ) → paper v ≡ refuse number train →
         (r : Refusal) × (v ≡ Refused r) × (refusals.paper r ≡ record { number = number; place = train })
-    found (Accepted figures) number train e = absurd (zero_not_one cc)
-    found (Collide meeting figures) number train e = absurd (zero_not_one cc)
+    found (Accepted figures) number train e = cc
+    found (Collide meeting figures) number train e = cc
     found (Refused r) number train e =
         let a : (refusals.paper r).number ≡ number = cc in
         let b : (refusals.paper r).place ≡ train = cc in

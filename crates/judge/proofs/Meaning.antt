@@ -63,16 +63,6 @@ view row = outcomes (refusal row) refl
     outcomes (Ok _) e = founds e (scan (train_at (trains row)) (pairs (length (trains row))) 0) refl
     outcomes (Err r) e = refused r e (sym (verdict_refused row r e))
 
--- the three kinds of printed lines
-kind : Shown → ℕ
-kind (accept L d) = 0
-kind (collide i j t L d) = 1
-kind (refuse n t) = 2
-
--- a verdict of one kind is not printed as one of another
-not_shown : {u w : Verdict} {s : Shown} {A : Type 0} → u ≡ w → paper u ≡ s → (kind (paper w) ≡ kind s → ⊥) → A
-not_shown q h differ = absurd (differ (ap kind (ap paper (sym q) ∙ h)))
-
 -- ---- Pairs of a table that passes
 
 module _ (row : List ℕ) where
@@ -134,7 +124,6 @@ module _ (row : List ℕ) where
 
   pub refuse_exactly :
       (r : Refusal) → (paper (verdict row) ≡ refuse (refusals.paper r).number (refusals.paper r).place) ↔ First (order row) r
-  unfolding kind
   refuse_exactly r = (there (view row), λ g. ap paper (sym (verdict_refused row r (((refusal_follows row).refused r).1 g))))
     where
       there : View row → paper (verdict row) ≡ refuse (refusals.paper r).number (refusals.paper r).place → First (order row) r
@@ -144,13 +133,12 @@ module _ (row : List ℕ) where
           let b : (refusals.paper s).place ≡ (refusals.paper r).place = cc in
           let same = (refusals-proved.promises).paper_tells s r (λ i. record { number = a i; place = b i }) in
           ((refusal_follows row).refused r).0 (e ∙ ap Err same)
-      there (accepted d e f q) h = not_shown q h (λ z. omega arith)
-      there (meets i j d e f q) h = not_shown q h (λ z. omega arith)
+      there (accepted d e f q) h = let k = ap paper (sym q) ∙ h in cc
+      there (meets i j d e f q) h = let k = ap paper (sym q) ∙ h in cc
 
   pub refuse_only :
       (number train : ℕ) → paper (verdict row) ≡ refuse number train →
       (r : Refusal) × First (order row) r × (refusals.paper r ≡ record { number = number; place = train })
-  unfolding kind
   refuse_only number train h = go (view row)
     where
       go : View row → (r : Refusal) × First (order row) r × (refusals.paper r ≡ record { number = number; place = train })
@@ -159,17 +147,16 @@ module _ (row : List ℕ) where
           let a : (refusals.paper r).number ≡ number = cc in
           let b : (refusals.paper r).place ≡ train = cc in
           (r, ((refusal_follows row).refused r).0 e, λ i. record { number = a i; place = b i })
-      go (accepted d e f q) = not_shown q h (λ z. omega arith)
-      go (meets i j d e f q) = not_shown q h (λ z. omega arith)
+      go (accepted d e f q) = let k = ap paper (sym q) ∙ h in cc
+      go (meets i j d e f q) = let k = ap paper (sym q) ∙ h in cc
 
   pub accept_schedulable : ((L d : ℕ) × (paper (verdict row) ≡ accept L d)) ↔ ((refusal row ≡ Ok tt) × Schedulable (trains row))
-  unfolding kind
   accept_schedulable = (λ w. there (view row) w.2, λ h. back (view row) h.0 h.1)
     where
       there : View row → {L d : ℕ} → paper (verdict row) ≡ accept L d → (refusal row ≡ Ok tt) × Schedulable (trains row)
-      there (refused r e q) h = not_shown q h (λ z. omega arith)
+      there (refused r e q) h = let k = ap paper (sym q) ∙ h in cc
       there (accepted d e f q) h = (e, all_schedulable e (scan_all_free at (pairs (length (trains row))) 0 d f).0)
-      there (meets i j d e f q) h = not_shown q h (λ z. omega arith)
+      there (meets i j d e f q) h = let k = ap paper (sym q) ∙ h in cc
 
       back : View row → refusal row ≡ Ok tt → Schedulable (trains row) → (L d : ℕ) × (paper (verdict row) ≡ accept L d)
       back (refused r e q) p s = absurd (refused_not_passed r (sym e ∙ p))
@@ -198,14 +185,13 @@ module _ (row : List ℕ) where
       (i j t : ℕ) →
       ((L d : ℕ) × (paper (verdict row) ≡ collide i j t L d))
       ↔ ((refusal row ≡ Ok tt) × FirstPair (trains row) (record { first = i; second = j }) × Least (Both (at i) (at j)) t)
-  unfolding kind
   collide_exactly i j t = (λ w. there (view row) w.2, λ h. back (view row) h.0 h.1 h.2)
     where
       there :
           View row → {L d : ℕ} → paper (verdict row) ≡ collide i j t L d →
           (refusal row ≡ Ok tt) × FirstPair (trains row) (record { first = i; second = j }) × Least (Both (at i) (at j)) t
-      there (refused r e q) h = not_shown q h (λ z. omega arith)
-      there (accepted d e f q) h = not_shown q h (λ z. omega arith)
+      there (refused r e q) h = let k = ap paper (sym q) ∙ h in cc
+      there (accepted d e f q) h = let k = ap paper (sym q) ∙ h in cc
       there (meets i' j' d e f q) h =
           let k = ap paper (sym q) ∙ h in
           let a : i' ≡ i = cc in
@@ -238,27 +224,25 @@ module _ (row : List ℕ) where
 
   pub accept_figures :
       (L d : ℕ) → paper (verdict row) ≡ accept L d → (L ≡ multiple (entries row)) × (d ≡ total at (pairs (length (trains row))))
-  unfolding kind
   accept_figures L d h = go (view row)
     where
       go : View row → (L ≡ multiple (entries row)) × (d ≡ total at (pairs (length (trains row))))
-      go (refused r e q) = not_shown q h (λ z. omega arith)
+      go (refused r e q) = let k = ap paper (sym q) ∙ h in cc
       go (accepted n e f q) =
           let k = ap paper (sym q) ∙ h in
           let a : L ≡ multiple (entries row) = cc in
           let b : d ≡ n = cc in
           (a, b ∙ (scan_all_free at (pairs (length (trains row))) 0 n f).1 ∙ zero-add _)
-      go (meets i j n e f q) = not_shown q h (λ z. omega arith)
+      go (meets i j n e f q) = let k = ap paper (sym q) ∙ h in cc
 
   pub collide_figures :
       (i j t L d : ℕ) → paper (verdict row) ≡ collide i j t L d →
       (L ≡ multiple (entries row)) × SummedTo (trains row) (record { first = i; second = j }) d
-  unfolding kind
   collide_figures i j t L d h = go (view row)
     where
       go : View row → (L ≡ multiple (entries row)) × SummedTo (trains row) (record { first = i; second = j }) d
-      go (refused r e q) = not_shown q h (λ z. omega arith)
-      go (accepted n e f q) = not_shown q h (λ z. omega arith)
+      go (refused r e q) = let k = ap paper (sym q) ∙ h in cc
+      go (accepted n e f q) = let k = ap paper (sym q) ∙ h in cc
       go (meets i' j' n e f q) =
           let k = ap paper (sym q) ∙ h in
           let a : i' ≡ i = cc in

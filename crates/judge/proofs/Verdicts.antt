@@ -45,8 +45,8 @@ module _ (row : List ℕ) where
 
 -- what was found is no refusal
 found_not_refused : (L : ℕ) (train : ℕ → Train) (f : Found) (r : Refusal) → found L train f ≡ v.Refused r → ⊥
-found_not_refused L train (Ok d) r e = let z : ◌≡◌ {A = ℕ} 0 1 = cc in omega arith
-found_not_refused L train (Err c) r e = let z : ◌≡◌ {A = ℕ} 0 1 = cc in omega arith
+found_not_refused L train (Ok d) r e = cc
+found_not_refused L train (Err c) r e = cc
 
 -- the verdict is a refusal just where the table is refused
 pub verdict_refuses : (row : List ℕ) (r : Refusal) → (verdict row ≡ v.Refused r) ↔ (refusal row ≡ Err r)
@@ -87,8 +87,7 @@ scan_all_free train (p ∷ ps) d e q = go (scan_all_free train ps (d + divisions
         ((λ r. ⊎_elim (λ (same : r ≡ p). subst (FreePair train) (sym same) f) (k.0 r)), k.1 ∙ add_assoc d (divisions_of train p) (total train ps))
     go later false f =
         let m = scan_meets train p ps d f in
-        let z : ◌≡◌ {A = ℕ} 0 1 = cc in
-        absurd (omega arith)
+        cc
 
 -- Some pairs up to and including the first that collides, with the count d before them.
 pub record FirstMeeting (train : ℕ → Train) (ps : List Places) (p : Places) (d e : ℕ) : Type 0 where
@@ -103,7 +102,7 @@ pub scan_first :
     (train : ℕ → Train) (ps : List Places) (i j d e : ℕ) → scan train ps d ≡ Err (record { first = i; second = j; divisions = e }) →
     FirstMeeting train ps (record { first = i; second = j }) d e
 unfolding scan total
-scan_first train [] i j d e q = let z : ◌≡◌ {A = ℕ} 0 1 = cc in absurd (omega arith)
+scan_first train [] i j d e q = cc
 scan_first train (p ∷ ps) i j d e q = go (scan_first train ps i j (d + divisions_of train p) e) (free_pair train p) refl
   where
     go :
