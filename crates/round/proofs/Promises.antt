@@ -15,10 +15,10 @@ use Rattle.table.specs.Answer.{test, or_else, checked}
 use Rattle.table.proofs.InOrder.{ltb_is, Follows, follows_then, follows_last}
 use Rattle.table.proofs.Following.{checked_follows}
 use Rattle.stored.specs.Given.{load_order}
-use Rattle.stored.specs.Paper.{paper_saved, paper_loaded}
+use Rattle.stored.specs.Paper.{paper_answer}
 use Rattle.stored.specs.Answer.{load_check}
 use Rattle.stored.proofs.Following.{load_follows}
-use Rattle.stored.proofs.Numbers.{saved_gives, saved_answers, loaded_gives, loaded_answers}
+use Rattle.stored.proofs.Numbers.{answer_gives, answer_passes}
 use Rattle.round.specs.Given.{kept_order, again_order}
 use Rattle.round.specs.Answer.{kept, again}
 use Rattle.round.specs.Promises.{Promises}
@@ -30,13 +30,13 @@ module _ (row : List ℕ) (room : ℕ) where
       follows_then (checked row) _ (checked_order row) _ (checked_follows row)
       (λ passed. follows_last _ BufferTooShort _ (ltb_is room (length (entries row) * numbers)))
 
-  kept_refused : (number train : ℕ) → (paper_loaded (kept row room) ≡ refuse number train) ↔ Gives (kept_order row room) number train
+  kept_refused : (number train : ℕ) → (paper_answer (kept row room) ≡ refuse number train) ↔ Gives (kept_order row room) number train
   unfolding kept
-  kept_refused = loaded_gives _ (kept_order row room) kept_follows _
+  kept_refused = answer_gives _ (kept_order row room) kept_follows _
 
-  kept_answers : (k : ℕ) → (paper_loaded (kept row room) ≡ answers k) ↔ (None (kept_order row room) × (k ≡ length (entries row)))
+  kept_answers : (k : ℕ) → (paper_answer (kept row room) ≡ answers k) ↔ (None (kept_order row room) × (k ≡ length (entries row)))
   unfolding kept
-  kept_answers = loaded_answers _ (kept_order row room) kept_follows _
+  kept_answers = answer_passes _ (kept_order row room) kept_follows _
 
 module _ (bs : List ℕ) (room : ℕ) where
   again_follows : Follows (or_else (load_check bs longest_row) (test (ltb room (length bs)) BufferTooShort)) (again_order bs room)
@@ -44,13 +44,13 @@ module _ (bs : List ℕ) (room : ℕ) where
       follows_then (load_check bs longest_row) _ (load_order bs longest_row) _ (load_follows bs longest_row)
       (λ passed. follows_last _ BufferTooShort _ (ltb_is room (length bs)))
 
-  again_refused : (number train : ℕ) → (paper_saved (again bs room) ≡ refuse number train) ↔ Gives (again_order bs room) number train
+  again_refused : (number train : ℕ) → (paper_answer (again bs room) ≡ refuse number train) ↔ Gives (again_order bs room) number train
   unfolding again
-  again_refused = saved_gives _ (again_order bs room) again_follows _
+  again_refused = answer_gives _ (again_order bs room) again_follows _
 
-  again_answers : (n : ℕ) → (paper_saved (again bs room) ≡ answers n) ↔ (None (again_order bs room) × (n ≡ length bs))
+  again_answers : (n : ℕ) → (paper_answer (again bs room) ≡ answers n) ↔ (None (again_order bs room) × (n ≡ length bs))
   unfolding again
-  again_answers = saved_answers _ (again_order bs room) again_follows _
+  again_answers = answer_passes _ (again_order bs room) again_follows _
 
 pub promises : Promises
 promises = record { kept_refused = kept_refused; kept_answers = kept_answers; again_refused = again_refused; again_answers = again_answers }
