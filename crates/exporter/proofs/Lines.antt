@@ -1,18 +1,35 @@
 -- The loops over the trains of a row: the one that measures their lines, and the one that writes them.
 -- Core: lines_next. The rest follows from it.
 -- Assumes nothing.
-use Prim.Native.Nat.{ℕ, suc, ◌+◌, ◌*◌, ◌<◌, ◌≤◌}
+use Prim.Native.Nat.{ℕ, suc, ◌+◌, ◌-◌, ◌*◌, ◌<◌, ◌≤◌}
 use mathlib.Core.Path.{◌≡◌, refl, sym, ap, ◌∙◌}
-use mathlib.Core.List.{List, [], ◌++◌, flat_map}
+use mathlib.Core.List.{List, [], ◌++◌, append_assoc, append-nil, flat_map}
 use native.Mathlib.Numerals.{add-one}
 use native.Mathlib.Omega.{arith}
-use lib.ListN.{length, get_or, drop, length-append, drop_of_length-le}
-use lib.Seq.{drop-cons}
+use lib.ListN.{length, get_or, take, drop, length-append, length-drop, drop_of_length-le}
+use lib.Seq.{drop-cons, drop-drop}
+use borrow.Rule.Slice.PartMut.{put_mid}
+use Rattle.std.proofs.lemmas.List.{take_rest}
 use Rattle.lent.specs.Lent.{over}
-use Rattle.lent.proofs.Over.{over_then, over_none}
+use Rattle.lent.proofs.Over.{over_then, over_front, over_none, length_over}
 use Rattle.table.specs.declared.Entry.{Entry}
 use Rattle.table.specs.Row.{no_entry}
 use Rattle.listing.specs.Layout.{record_text}
+
+-- what is written to the front of what is left of a text is written where that begins
+pub over_tail :
+    (l vs tail : List ℕ) (at : ℕ) → at + length vs ≤ length l → tail ≡ over (take (length l - at) (drop at l)) 0 vs →
+    put_mid at (length l - at) l tail ≡ over l at vs
+unfolding over
+over_tail l vs tail at h w =
+    let behind : tail ≡ vs ++ drop (at + length vs) l =
+    w ∙ ap (λ (d : List ℕ). over d 0 vs) (take_rest l at) ∙ over_front (drop at l) vs (length vs) refl
+    ∙ ap (λ (us : List ℕ). vs ++ us) (drop-drop (length vs) at l) in
+    let none : drop (length l - at) (drop at l) ≡ [] = drop_of_length-le (drop at l) (omega (arith, length-drop at l)) in
+    ap (λ (us : List ℕ). take at l ++ (us ++ drop (length l - at) (drop at l))) behind
+    ∙ ap (λ (us : List ℕ). take at l ++ ((vs ++ drop (at + length vs) l) ++ us)) none
+    ∙ ap (λ (us : List ℕ). take at l ++ us) (append-nil (vs ++ drop (at + length vs) l))
+    ∙ sym (append_assoc (take at l) vs (drop (at + length vs) l))
 
 module _ (es : List Entry) where
   -- The lines of the trains from a position on.
@@ -61,39 +78,42 @@ module _ (es : List Entry) where
 
   -- ---- The loop that writes
 
-  -- Where the lines from i on are written at `next`, all are written at `at`.
-  pub record Putting (before : List ℕ) (at : ℕ) (now : List ℕ) (next i : ℕ) : Type 0 where
+  -- Where the lines from i on are written at `end`, all are written at the front.
+  pub record Putting (before now : List ℕ) (end i : ℕ) : Type 0 where
     pub so_far : i ≤ length es
     pub same : length now ≡ length before
-    pub ends : next + length (lines i) ≡ at + length (flat_map record_text es)
-    pub whole : over now next (lines i) ≡ over before at (flat_map record_text es)
+    pub ends : end + length (lines i) ≡ length (flat_map record_text es)
+    pub whole : over now end (lines i) ≡ over before 0 (flat_map record_text es)
 
-  pub putting_begins : (before : List ℕ) (at : ℕ) → Putting before at before at 0
-  putting_begins before at = record { so_far = omega arith; same = refl; ends = refl; whole = refl }
+  pub putting_begins : (before : List ℕ) → Putting before before 0 0
+  putting_begins before = record { so_far = omega arith; same = refl; ends = omega arith; whole = refl }
 
-  module _ (before now : List ℕ) (at next i : ℕ) (e : Entry) (room : at + length (flat_map record_text es) ≤ length before)
-      (putting : Putting before at now next i) where
+  module _ (before now : List ℕ) (end i : ℕ) (e : Entry) (room : length (flat_map record_text es) ≤ length before)
+      (putting : Putting before now end i) where
     module _ (h : i < length es) (e-is : e ≡ get_or es i no_entry) where
       -- the next line has room
-      pub putting_room : next + length (record_text e) ≤ length now
+      pub putting_room : end + length (record_text e) ≤ length now
       putting_room = omega (arith, putting.ends, putting.same, next_length i h e e-is)
 
       pub putting_on :
-          (after : List ℕ) (end : ℕ) → length after ≡ length now → end ≡ next + length (record_text e) →
-          after ≡ over now next (record_text e) → Putting before at after end (i + 1)
-      putting_on after end same end_is wrote =
+          (tail : List ℕ) (w : ℕ) → w ≡ length (record_text e) → tail ≡ over (take (length now - end) (drop end now)) 0 (record_text e) →
+          Putting before (put_mid end (length now - end) now tail) (end + w) (i + 1)
+      putting_on tail w w_is wrote =
+          let after : List ℕ = put_mid end (length now - end) now tail in
+          let is : after ≡ over now end (record_text e) = over_tail now (record_text e) tail end putting_room wrote in
           record {
             so_far = omega arith;
-            same = same ∙ putting.same;
+            same = ap length is ∙ length_over now end (record_text e) putting_room ∙ putting.same;
             ends = omega (arith, putting.ends, next_length i h e e-is);
             whole =
-                over_then now after (record_text e) (lines (i + 1)) next end (omega (arith, putting_room)) (sym end_is) wrote
-                ∙ ap (over now next) (sym (lines_next i h e e-is))
+                over_then now after (record_text e) (lines (i + 1)) end (end + w) (omega (arith, putting_room)) (omega arith) is
+                ∙ ap (over now end) (sym (lines_next i h e e-is))
                 ∙ putting.whole;
           }
 
-    pub putting_ends : length es ≤ i → (next ≡ at + length (flat_map record_text es)) × (now ≡ over before at (flat_map record_text es))
-    putting_ends h = (
-      omega (arith, putting.ends, ap length (no_lines i h)),
-      sym (over_none now next) ∙ ap (over now next) (sym (no_lines i h)) ∙ putting.whole,
-    )
+    module _ (h : length es ≤ i) where
+      pub putting_end : end ≡ length (flat_map record_text es)
+      putting_end = omega (arith, putting.ends, ap length (no_lines i h))
+
+      pub putting_ends : now ≡ over before 0 (flat_map record_text es)
+      putting_ends = sym (over_none now end) ∙ ap (over now end) (sym (no_lines i h)) ∙ putting.whole

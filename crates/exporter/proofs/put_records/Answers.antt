@@ -1,38 +1,40 @@
--- `put_records` meets its contract. The loop's invariant: where the lines from this position on are written here, all are written.
--- The measure is the trains that are left.
+-- `put_records` meets its contract: each record is written behind the one before it, to what is left of the text.
 use mathlib.Core.Path.{sym, ap, ◌∙◌}
 use native.Mathlib.Omega.{arith}
+use lib.ListN.{length-drop}
+use Rattle.std.proofs.lemmas.List.{take_rest}
 use Rattle.table.specs.Row.{entries, no_entry, lowest_entry}
 use Rattle.table.proofs.Rows.{lowest_in, lowest_out, lowest_at}
-use Rattle.exporter.proofs.Lines.{putting_begins, putting_room, putting_on, putting_ends}
+use Rattle.exporter.proofs.Lines.{putting_room, putting_on, putting_end, putting_ends}
 use Rattle.exporter.proofs.put_records.Goals as goal
 
-pub loop-position-init : goal.loop-position-init
-loop-position-init c = putting_begins _ _ _
-
-pub put_record-next-requires : goal.put_record-next-requires
-put_record-next-requires c =
+pub put_record-end-requires : goal.put_record-end-requires
+put_record-end-requires c =
     let given = c.args.row.now in
-    putting_room _ _ _ _ _ _ _ c.requires c.loop-position.invariant (lowest_in given _ c.loop-position-test.true)
-    (ap lowest_entry c.at-entry.ensures ∙ sym (lowest_at (entries given) c.loop-position.position))
+    let room = putting_room _ _ _ _ _ _ c.requires c.loop-position.invariant (lowest_in given _ c.loop-position-test.true)
+    (ap lowest_entry c.at.ensures ∙ sym (lowest_at (entries given) c.loop-position.position)) in
+    simp (take_rest, length-drop) (omega (arith, room))
 
-pub loop-position-smaller : goal.loop-position-smaller
-loop-position-smaller c = omega arith
+pub overflow_add-end : goal.overflow_add-end
+overflow_add-end c =
+    let given = c.args.row.now in
+    omega (
+      arith,
+      putting_room _ _ _ _ _ _ c.requires c.loop-position.invariant (lowest_in given _ c.loop-position-test.true)
+          (ap lowest_entry c.at.ensures ∙ sym (lowest_at (entries given) c.loop-position.position)),
+    )
 
 pub loop-position-preserved : goal.loop-position-preserved
 loop-position-preserved c =
     let given = c.args.row.now in
-    putting_on _ _ _ _ _ _ _ c.requires c.loop-position.invariant (lowest_in given _ c.loop-position-test.true)
-    (ap lowest_entry c.at-entry.ensures ∙ sym (lowest_at (entries given) c.loop-position.position))
-    _ _ c.put_record-next.auto.text c.put_record-next.ensures.end c.put_record-next.ensures.bytes
+    putting_on _ _ _ _ _ _ c.requires c.loop-position.invariant (lowest_in given _ c.loop-position-test.true)
+    (ap lowest_entry c.at.ensures ∙ sym (lowest_at (entries given) c.loop-position.position))
+    _ _ c.put_record-end.ensures.end c.put_record-end.ensures.bytes
 
-pub shape_of-text : goal.shape_of-text
-shape_of-text c = c.loop-position.invariant.same
+pub returns-clause-end : goal.returns-clause-end
+returns-clause-end c =
+    putting_end _ _ _ _ _ no_entry c.requires c.loop-position.invariant (lowest_out c.args.row.now _ c.loop-position-test.false)
 
-pub returns : goal.returns
-returns c =
-    let both = putting_ends _ _ _ _ _ _ no_entry c.requires c.loop-position.invariant (lowest_out c.args.row.now _ c.loop-position-test.false) in
-    record {
-      end = both.0;
-      bytes = both.1;
-    }
+pub returns-clause-bytes : goal.returns-clause-bytes
+returns-clause-bytes c =
+    putting_ends _ _ _ _ _ no_entry c.requires c.loop-position.invariant (lowest_out c.args.row.now _ c.loop-position-test.false)

@@ -1,41 +1,46 @@
 -- `put_time` meets its contract: n, and where there is an m, a slash and m.
 use native.Mathlib.Omega.{arith}
-use lib.ListN.{length-set}
-use Rattle.exporter.proofs.Stores.{parts_at, slash_at, time_whole, time_parts}
+use Rattle.exporter.proofs.Stores.{parts_at, slash_at, time_end, time_whole, parts_end, time_parts}
 use Rattle.exporter.proofs.put_time.Goals as goal
 
-pub returns-then-reduced-eq1 : goal.returns-then-reduced-eq1
-returns-then-reduced-eq1 c =
-    let put = c.put-end.ensures in
-    let both = time_whole _ _ c.lowest-reduced.ensures _ _ _ _ c.requires put.end put.bytes c.if-reduced-eq1.true in
-    record {
-      end = both.0;
-      bytes = both.1;
-    }
+pub returns-then-reduced-eq1-clause-end : goal.returns-then-reduced-eq1-clause-end
+returns-then-reduced-eq1-clause-end c =
+    let end = rw c.from.ensures at (c.put-end.ensures.end) in
+    let bytes = rw c.from.ensures at (c.put-end.ensures.bytes) in
+    time_end _ _ c.lowest-reduced.ensures _ _ _ c.requires end bytes c.if-reduced-eq1.true
+
+pub returns-then-reduced-eq1-clause-bytes : goal.returns-then-reduced-eq1-clause-bytes
+returns-then-reduced-eq1-clause-bytes c =
+    let end = rw c.from.ensures at (c.put-end.ensures.end) in
+    let bytes = rw c.from.ensures at (c.put-end.ensures.bytes) in
+    time_whole _ _ c.lowest-reduced.ensures _ _ _ c.requires end bytes c.if-reduced-eq1.true
 
 pub bounds-text-end : goal.bounds-text-end
 bounds-text-end c =
+    let end = rw c.from.ensures at (c.put-end.ensures.end) in
+    let bytes = rw c.from.ensures at (c.put-end.ensures.bytes) in
     let is = c.lowest-reduced.ensures in
-    let at = slash_at _ _ is _ _ _ _ c.requires c.put-end.ensures.end c.put-end.ensures.bytes c.if-reduced-eq1.false in
+    let at = slash_at _ _ is _ _ _ c.requires end bytes c.if-reduced-eq1.false in
     omega (arith, at, parts_at _ _ is c.if-reduced-eq1.false)
 
 pub overflow_add-end : goal.overflow_add-end
 overflow_add-end c =
+    let end = rw c.from.ensures at (c.put-end.ensures.end) in
+    let bytes = rw c.from.ensures at (c.put-end.ensures.bytes) in
     let is = c.lowest-reduced.ensures in
-    let at = slash_at _ _ is _ _ _ _ c.requires c.put-end.ensures.end c.put-end.ensures.bytes c.if-reduced-eq1.false in
+    let at = slash_at _ _ is _ _ _ c.requires end bytes c.if-reduced-eq1.false in
     omega (arith, at, parts_at _ _ is c.if-reduced-eq1.false)
 
-pub shape_of-text : goal.shape_of-text
-shape_of-text c =
-    omega (arith, simp length-set at c.put.auto.out, c.put-end.auto.out)
+pub returns-clause-end : goal.returns-clause-end
+returns-clause-end c =
+    let end = rw c.from.ensures at (c.put-end.ensures.end) in
+    let bytes = rw c.from.ensures at (c.put-end.ensures.bytes) in
+    let last = rw c.from-2.ensures at (c.put.ensures.end) in
+    parts_end _ _ c.lowest-reduced.ensures _ _ _ c.requires end bytes c.if-reduced-eq1.false c.put-end.auto.out _ last
 
-pub returns : goal.returns
-returns c =
-    let put = c.put-end.ensures in
-    let both =
-    time_parts _ _ c.lowest-reduced.ensures _ _ _ _ c.requires put.end put.bytes c.if-reduced-eq1.false
-    _ _ c.put-end.auto.out c.put.ensures.end c.put.ensures.bytes in
-    record {
-      end = both.0;
-      bytes = both.1;
-    }
+pub returns-clause-bytes : goal.returns-clause-bytes
+returns-clause-bytes c =
+    let end = rw c.from.ensures at (c.put-end.ensures.end) in
+    let bytes = rw c.from.ensures at (c.put-end.ensures.bytes) in
+    let last = rw c.from-2.ensures at (c.put.ensures.bytes) in
+    time_parts _ _ c.lowest-reduced.ensures _ _ _ c.requires end bytes c.if-reduced-eq1.false c.put-end.auto.out _ last

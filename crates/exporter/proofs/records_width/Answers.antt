@@ -1,28 +1,18 @@
--- `records_width` meets its contract. The loop's invariant: what was measured and what is left are the whole. The measure is the
--- trains that are left.
+-- `records_width` meets its contract: the width of each record joins those before it.
 use mathlib.Core.Path.{sym, ap, ◌∙◌}
 use native.Mathlib.Omega.{arith}
 use lib.ListN.{length-map}
 use Rattle.table.specs.Row.{entries, lowest_entry}
 use Rattle.table.proofs.Entries.{entries_length}
 use Rattle.table.proofs.Rows.{lowest_in, lowest_out, lowest_at}
-use Rattle.exporter.proofs.Lines.{measuring_begins, measuring_on, measuring_ends}
+use Rattle.exporter.proofs.Lines.{measuring_on, measuring_ends}
 use Rattle.exporter.proofs.records_width.Goals as goal
-
-pub loop-position-init : goal.loop-position-init
-loop-position-init c = measuring_begins _
-
-pub overflow_add-width : goal.overflow_add-width
-overflow_add-width c = omega arith
-
-pub loop-position-smaller : goal.loop-position-smaller
-loop-position-smaller c = omega arith
 
 pub loop-position-preserved : goal.loop-position-preserved
 loop-position-preserved c =
     let given = c.args.row.now in
     measuring_on _ _ _ _ _ (lowest_in given _ c.loop-position-test.true)
-    (ap lowest_entry c.at-entry.ensures ∙ sym (lowest_at (entries given) c.loop-position.position)) c.record_width-width.ensures
+    (ap lowest_entry c.at.ensures ∙ sym (lowest_at (entries given) c.loop-position.position)) c.record_width-width.ensures
     c.loop-position.invariant
 
 pub returns : goal.returns

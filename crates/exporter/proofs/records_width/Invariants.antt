@@ -1,6 +1,4 @@
--- `records_width` meets its contract. The loop's invariant: what was measured and what is left are the whole. The measure is the
--- trains that are left.
-use Prim.Native.Nat.{◌-◌}
+-- The loop's invariant in `records_width`: what was measured and what is left are the whole.
 use mathlib.Core.List.{map}
 use Rattle.table.specs.Row.{entries, lowest_entry}
 use Rattle.exporter.proofs.Lines.{Measuring}
@@ -8,6 +6,3 @@ use Rattle.exporter.proofs.records_width.Given as goal
 
 abbrev pub invariant-loop-position : goal.invariant-loop-position
 invariant-loop-position l = Measuring (map lowest_entry (entries l.row)) l.width l.position
-
-abbrev pub decreases-loop-position : goal.decreases-loop-position
-decreases-loop-position l = l.count - l.position

@@ -6,8 +6,11 @@ use Rattle.exporter.proofs.time_width.Goals as goal
 
 pub returns-then-terms-eq1 : goal.returns-then-terms-eq1
 returns-then-terms-eq1 c =
-    (c.width-above.ensures.0 ∙ whole_at _ _ c.lowest-terms.ensures c.if-terms-eq1.true, omega arith)
+    let digits = rw c.from.ensures at (c.width-above.ensures.0) in
+    (digits ∙ whole_at _ _ c.lowest-terms.ensures c.if-terms-eq1.true, omega arith)
 
 pub returns : goal.returns
 returns c =
-    (omega (arith, parts_at _ _ c.lowest-terms.ensures c.if-terms-eq1.false), omega arith)
+    let above = rw c.from.ensures at (c.width-above.ensures.0) in
+    let below = rw c.from-2.ensures at (c.width.ensures.0) in
+    (omega (arith, above, below, parts_at _ _ c.lowest-terms.ensures c.if-terms-eq1.false), omega arith)
