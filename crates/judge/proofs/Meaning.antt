@@ -29,11 +29,10 @@ use Rattle.table.proofs.Checks.{refused_not_passed}
 use Rattle.table.proofs.Limits.{refusal_follows}
 use Rattle.table.proofs.Terms.{reading_same}
 use Rattle.judge.specs.declared.Meeting.{Meeting}
-use Rattle.judge.specs.declared.Verdict.{Verdict}
 use Rattle.judge.specs.declared.Verdict.TheVariants as v
-use Rattle.judge.specs.Paper.{Shown, accept, collide, refuse, paper}
+use Rattle.judge.specs.Paper.{accept, collide, refuse, paper}
 use Rattle.judge.specs.Pairs.{train_at, Schedulable, Places, Before, PairOf, FirstPair, pairs, In, total, SummedTo}
-use Rattle.judge.specs.Answer.{tick_of, Found, scan, found, verdict}
+use Rattle.judge.specs.Answer.{tick_of, Found, collides_at, scan, found, verdict}
 use Rattle.judge.proofs.Walk.{pairs_few, total_few}
 use Rattle.judge.proofs.Ordered.{pairs_all, pairs_before, before_total, in_left}
 use Rattle.judge.proofs.Verdicts.{verdict_refused, verdict_found, verdict_read, verdict_read_lem, FreePair, scan_all_free, scan_first, meets_pair}
@@ -47,7 +46,7 @@ data View (row : List ℕ) : Type 0 where
       (d : ℕ) → refusal row ≡ Ok tt → scan (train_at (trains row)) (pairs (length (trains row))) 0 ≡ Ok d →
       verdict row ≡ v.Accepted (record { multiple = multiple (entries row); divisions = d }) → View row
   meets :
-      (i j d : ℕ) → refusal row ≡ Ok tt → scan (train_at (trains row)) (pairs (length (trains row))) 0 ≡ Err (record { first = i; second = j; divisions = d }) →
+      (i j d : ℕ) → refusal row ≡ Ok tt → scan (train_at (trains row)) (pairs (length (trains row))) 0 ≡ collides_at (record { first = i; second = j }) d →
       verdict row
       ≡ v.Collide (record { first = i; second = j; tick = tick_of (earliest (train_at (trains row) i) (train_at (trains row) j)) })
       (record { multiple = multiple (entries row); divisions = d }) → View row
@@ -98,12 +97,12 @@ module _ (row : List ℕ) where
 
   -- what the walk has found is the first pair that collides, at its earliest tick
   first_pair :
-      (i j d : ℕ) → refusal row ≡ Ok tt → scan at (pairs (length (trains row))) 0 ≡ Err (record { first = i; second = j; divisions = d }) →
+      (i j d : ℕ) → refusal row ≡ Ok tt → scan at (pairs (length (trains row))) 0 ≡ collides_at (record { first = i; second = j }) d →
       FirstPair (trains row) (record { first = i; second = j })
   first_pair i j d e q =
       let p : Places = record { first = i; second = j } in
-      let f = scan_first at (pairs (length (trains row))) i j 0 d q in
-      let pair = meets_pair at (length (trains row)) i j 0 d q in
+      let f = scan_first at (pairs (length (trains row))) p 0 d q in
+      let pair = meets_pair at (length (trains row)) p 0 d q in
       let in-front = pairs_before (length (trains row)) f.before f.behind p f.in_order in
       record {
         positions = pair;
@@ -249,7 +248,7 @@ module _ (row : List ℕ) where
           let b : j' ≡ j = cc in
           let c : d ≡ n = cc in
           let l : L ≡ multiple (entries row) = cc in
-          let m = scan_first at (pairs (length (trains row))) i' j' 0 n f in
+          let m = scan_first at (pairs (length (trains row))) (record { first = i'; second = j' }) 0 n f in
           let summed : SummedTo (trains row) (record { first = i'; second = j' }) d =
           record { before = m.before; behind = m.behind; in_order = m.in_order; sum = c ∙ m.sum ∙ zero-add _ } in
           (l, subst (λ (p : Places). SummedTo (trains row) p d) (λ x. record { first = a x; second = b x }) summed)

@@ -24,7 +24,7 @@ use Rattle.judge.specs.declared.Collision.{Collision}
 use Rattle.judge.specs.declared.Verdict.{Verdict}
 use Rattle.judge.specs.declared.Verdict.TheVariants as v
 use Rattle.judge.specs.Pairs.{train_at, Places, PairOf, pairs, In, divisions_of, total}
-use Rattle.judge.specs.Answer.{tick_of, Found, free_pair, scan, found, judged, verdict}
+use Rattle.judge.specs.Answer.{tick_of, Found, free_pair, collides_at, scan, found, judged, verdict}
 use Rattle.judge.specs.Inside.{Scannable}
 use Rattle.judge.proofs.Walk.{scan_free, scan_meets}
 use Rattle.judge.proofs.Ordered.{in_right, pairs_all}
@@ -89,6 +89,10 @@ scan_all_free train (p ∷ ps) d e q = go (scan_all_free train ps (d + divisions
         let m = scan_meets train p ps d f in
         cc
 
+-- two collisions that are found are one
+err_same : {x y : Collision} → ◌≡◌ {A = Found} (Err x) (Err y) → x ≡ y
+err_same e = cc
+
 -- Some pairs up to and including the first that collides, with the count d before them.
 pub record FirstMeeting (train : ℕ → Train) (ps : List Places) (p : Places) (d e : ℕ) : Type 0 where
   pub before : List Places
@@ -99,47 +103,44 @@ pub record FirstMeeting (train : ℕ → Train) (ps : List Places) (p : Places) 
   pub sum : e ≡ d + total train (before ++ p ∷ [])
 
 pub scan_first :
-    (train : ℕ → Train) (ps : List Places) (i j d e : ℕ) → scan train ps d ≡ Err (record { first = i; second = j; divisions = e }) →
-    FirstMeeting train ps (record { first = i; second = j }) d e
+    (train : ℕ → Train) (ps : List Places) (r : Places) (d e : ℕ) → scan train ps d ≡ collides_at r e → FirstMeeting train ps r d e
 unfolding scan total
-scan_first train [] i j d e q = cc
-scan_first train (p ∷ ps) i j d e q = go (scan_first train ps i j (d + divisions_of train p) e) (free_pair train p) refl
+scan_first train [] r d e q = cc
+scan_first train (p ∷ ps) r d e q = go (scan_first train ps r (d + divisions_of train p) e) (free_pair train p) refl
   where
     go :
-        (scan train ps (d + divisions_of train p) ≡ Err (record { first = i; second = j; divisions = e }) →
-        FirstMeeting train ps (record { first = i; second = j }) (d + divisions_of train p) e) →
-        (b : Bool) → free_pair train p ≡ b → FirstMeeting train (p ∷ ps) (record { first = i; second = j }) d e
+        (scan train ps (d + divisions_of train p) ≡ collides_at r e → FirstMeeting train ps r (d + divisions_of train p) e) →
+        (b : Bool) → free_pair train p ≡ b → FirstMeeting train (p ∷ ps) r d e
     go later true f =
         let k = later (sym (scan_free train p ps d f) ∙ q) in
         record {
           before = p ∷ k.before;
           behind = k.behind;
           in_order = ap (λ (rs : List Places). p ∷ rs) k.in_order;
-          all_free = λ r. ⊎_elim (λ (same : r ≡ p). subst (FreePair train) (sym same) f) (k.all_free r);
+          all_free = λ x. ⊎_elim (λ (same : x ≡ p). subst (FreePair train) (sym same) f) (k.all_free x);
           meets = k.meets;
-          sum = k.sum ∙ add_assoc d (divisions_of train p) (total train (k.before ++ record { first = i; second = j } ∷ []));
+          sum = k.sum ∙ add_assoc d (divisions_of train p) (total train (k.before ++ r ∷ []));
         }
     go later false f =
-        let m : ◌≡◌ {A = Found} (Err (record { first = p.first; second = p.second; divisions = d + divisions_of train p })) (Err (record { first = i; second = j; divisions = e })) =
-        sym (scan_meets train p ps d f) ∙ q in
-        let r : record { first = p.first; second = p.second; divisions = d + divisions_of train p } ≡ record { first = i; second = j; divisions = e } = cc in
-        let a : p.first ≡ i = ap (λ (c : Collision). c.first) r in
-        let b : p.second ≡ j = ap (λ (c : Collision). c.second) r in
-        let c : e ≡ d + divisions_of train p = sym (ap (λ (c : Collision). c.divisions) r) in
-        let same : p ≡ record { first = i; second = j } = λ k. record { first = a k; second = b k } in
+        let m : collides_at p (d + divisions_of train p) ≡ collides_at r e = sym (scan_meets train p ps d f) ∙ q in
+        let c : ◌≡◌ {A = Collision} _ _ = err_same m in
+        let same : p ≡ r = λ k. record { first = (c k).first; second = (c k).second } in
         record {
           before = [];
           behind = ps;
-          in_order = ap (λ (r : Places). r ∷ ps) same;
-          all_free = λ r m. absurd m;
-          meets = subst (λ (r : Places). free_pair train r ≡ false) same f;
-          sum = c ∙ ap (λ (r : Places). d + divisions_of train r) same ∙ ap (λ (n : ℕ). d + n) (sym (add-zero _));
+          in_order = ap (λ (x : Places). x ∷ ps) same;
+          all_free = λ x m. absurd m;
+          meets = subst (λ (x : Places). free_pair train x ≡ false) same f;
+          sum =
+              sym (ap (λ (x : Collision). x.divisions) c)
+              ∙ ap (λ (x : Places). d + divisions_of train x) same
+              ∙ ap (λ (n : ℕ). d + n) (sym (add-zero _));
         }
 
 -- the pair that the walk has found is one of the table
-pub meets_pair : (train : ℕ → Train) (n i j d e : ℕ) → scan train (pairs n) d ≡ Err (record { first = i; second = j; divisions = e }) → PairOf n (record { first = i; second = j })
-meets_pair train n i j d e q =
-    let f = scan_first train (pairs n) i j d e q in
+pub meets_pair : (train : ℕ → Train) (n : ℕ) (r : Places) (d e : ℕ) → scan train (pairs n) d ≡ collides_at r e → PairOf n r
+meets_pair train n r d e q =
+    let f = scan_first train (pairs n) r d e q in
     (pairs_all n _).0 (subst (In _) (sym f.in_order) (in_right _ f.before _ (inl refl)))
 
 -- ---- The ways through the code
@@ -167,21 +168,28 @@ module _ (ts : List Train) (L : ℕ) where
       ∙ ap (found L (train_at ts)) q
 
 module _ (ts : List Train) (c : Collision) (q : Err c ≡ scan (train_at ts) (pairs (length ts)) 0) where
-  places : PairOf (length ts) (record { first = c.first; second = c.second })
-  places = meets_pair (train_at ts) (length ts) c.first c.second 0 c.divisions (sym q)
+  this : Places
+  this = record { first = c.first; second = c.second }
+
+  places : PairOf (length ts) this
+  unfolding this
+  places = meets_pair (train_at ts) (length ts) this 0 c.divisions (sym q)
 
   pub first_inside : c.first < length ts
+  unfolding this
   first_inside = let p = places in omega (arith, p.0, p.1)
 
   pub second_inside : c.second < length ts
+  unfolding this
   second_inside = places.1
 
   -- the pair that collides has an earliest tick
   pub has_tick : Scannable ts → IsSome (earliest (train_at ts c.first) (train_at ts c.second))
+  unfolding this
   has_tick s =
       let li = s.limits c.first first_inside in
       let lj = s.limits c.second second_inside in
-      let meets = (scan_first (train_at ts) (pairs (length ts)) c.first c.second 0 c.divisions (sym q)).meets in
+      let meets = (scan_first (train_at ts) (pairs (length ts)) this 0 c.divisions (sym q)).meets in
       let w = (earliest_exists _ _ li lj).1 ((collides_iff _ _ li.strict lj.strict).0 meets) in
       subst IsSome (sym w.1) refl
 

@@ -2,6 +2,7 @@
 --     tick_of common     the tick of a pair that collides
 --     free_pair train p  whether a pair is free of collision
 --     Found              what some pairs say: the count of all, or the first that collides
+--     collides_at p d    that a pair collides, with the count up to and including it
 --     scan train ps d    what some pairs say, where so many divisions were counted before
 --     found L train f    the verdict of what was found
 --     judged o L ts      the verdict on the trains of a table that passes, or its refusal
@@ -29,12 +30,15 @@ free_pair train p = free (train p.first) (train p.second)
 abbrev pub Found : Type 0
 Found = Result ℕ Collision
 
+-- That a pair is the first that collides, with the count up to and including it.
+abbrev pub collides_at : Places → ℕ → Found
+collides_at p d = Err (record { first = p.first; second = p.second; divisions = d })
+
 -- The pairs one after the other, each adding its division count, up to and including the first that collides.
 unfoldable pub scan : (ℕ → Train) → List Places → ℕ → Found
 scan train [] d = Ok d
 scan train (p ∷ ps) d =
-    cond (free_pair train p) (scan train ps (d + divisions_of train p))
-    (Err (record { first = p.first; second = p.second; divisions = d + divisions_of train p }))
+    cond (free_pair train p) (scan train ps (d + divisions_of train p)) (collides_at p (d + divisions_of train p))
 
 -- What was found, with L and the earliest tick.
 abbrev pub found : ℕ → (ℕ → Train) → Found → Verdict

@@ -1,5 +1,5 @@
--- The last way through the test of the numbers, the ways through the test of a pair, the answer of `compare`, and that which of two trains is
--- named first makes no difference.
+-- The last way through the test of the numbers, the ways through the test of a pair, the answer of `compare`, and that which
+-- of two trains is named first makes no difference.
 -- Assumes nothing.
 use Prim.Native.Nat.{ℕ, ◌+◌, ◌-◌, ◌%◌, ◌<◌, ◌≤◌}
 use mathlib.Core.Path.{◌≡◌, sym, ap, ◌∙◌}
