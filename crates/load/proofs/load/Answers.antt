@@ -1,18 +1,9 @@
 -- `load` meets its contract: past the head, what is found of the trains of the records, and then the room and the row.
-use mathlib.Core.Path.{sym}
 use lib.ListN.{length}
-use native.Mathlib.Omega.{arith}
 use Rattle.std.proofs.Common.{rules}
-use Rattle.stored.proofs.Loading.{head_passed}
 use Rattle.load.proofs.Walk.{cut}
 use Rattle.load.proofs.Stores.{answers_trains, answers_short, answers_count, load_writes}
 use Rattle.load.proofs.load.Goals as goal
-
-pub slice_bounds-as_chunks-count : goal.slice_bounds-as_chunks-count
-slice_bounds-as_chunks-count c = (head_passed _ (sym c.in_ok-check_head.ensures)).long
-
-pub slice_bounds-as_chunks-start : goal.slice_bounds-as_chunks-start
-slice_bounds-as_chunks-start c = omega (arith, (head_passed _ (sym c.in_ok-check_head.ensures)).long)
 
 pub returns-in_err-check_records-clause-answer : goal.returns-in_err-check_records-clause-answer
 returns-in_err-check_records-clause-answer c =
