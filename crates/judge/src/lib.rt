@@ -53,6 +53,7 @@ fn scan_behind(trains: &[Train], first: usize, before: u32) -> Result<u32, Colli
     ensures few { IfOk result (λ divisions. divisions ≤ before + 33 * capacity) }
 {
     let mut divisions = before;
+    // By position and not by train, since the positions are what is answered.
     for second in first + 1..trains.len() {
         let pair = train::compare(trains[first], trains[second]);
         divisions += pair.divisions;
