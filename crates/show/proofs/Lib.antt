@@ -1,2 +1,2 @@
--- The law that the proof of `show` cites.
+-- The law that the proof of `line_in` cites.
 pub mod Lines

@@ -1,58 +1,53 @@
 // Prints the line of a verdict on standard output, or that of a refusal on standard error, by `stream`; the programs call it,
 // and hand over the two. What the line is was decided in `line`. Of those of the system no contract can say what is printed, but
-// what is handed on to be printed is tied to the verdict: `print` and `complain` ask for it.
+// what is handed on to be printed is tied to the verdict: `complain` asks for it.
 #![tactic(auto)]
 
-ghost use Rattle.std.specs.Prelude.{IsTrue};
+ghost use Rattle.std.specs.Prelude.{◌≡◌, ◌≤◌, length, OnOk};
 ghost use Rattle.std.specs.Io.KnownBytes.{Appends};
-ghost use Rattle.line.specs.Answer.{line_of};
+ghost use Rattle.line.specs.Answer.{line_of, longest};
 ghost use Rattle.show.specs.Standing.{Stands};
 
 use judge::Verdict;
-use line::Written;
 use refusal::Refusal;
 use std::io::Write;
+use stream::Fault;
 
-// Prints the line of the verdict, which stands at the start of the text. The verdict is named only to say so.
-fn print<W: Write, E: Write>(
+// The line of the verdict, at the start of a buffer with room for any.
+#[tactic(auto, using(crate::proofs::Lines::front_written), unfolding(line::specs::Answer::buffer_after))]
+fn line_in(verdict: Verdict, text: &mut [u8]) -> &[u8]
+    requires { longest ≤ length text.old }
+    ensures { Stands verdict result.now }
+{
+    match line::write(verdict, text) {
+        Ok(length) => &text[..length],
+        // the buffer is too short for no line
+        Err(_) => unreachable!(),
+    }
+}
+
+// Prints the line of a verdict that refuses on standard error. The verdict is named only to say so.
+fn complain<E: Write>(errors: &mut E, verdict: Verdict, text: &[u8])
+    requires { Stands verdict text.now }
+{
+    stream::complain(errors, text)
+}
+
+// Prints the line of a verdict.
+pub fn show<W: Write, E: Write>(
     output: &mut W,
     errors: &mut E,
     verdict: Verdict,
-    text: &[u8],
-    length: usize,
-) -> bool
-    requires { Stands verdict length text.now }
-    ensures { IsTrue result → Appends (W.contents output.old) (W.contents output.new) (line_of verdict) }
+) -> Result<(), Fault>
+    ensures { OnOk result (Appends (W.contents output.old) (W.contents output.new) (line_of verdict)) }
 {
-    stream::write(output, errors, &text[..length])
-}
-
-// Prints the line of a verdict that refuses, which stands at the start of the text, on standard error.
-fn complain<E: Write>(errors: &mut E, verdict: Verdict, text: &[u8], length: usize)
-    requires { Stands verdict length text.now }
-{
-    stream::complain(errors, &text[..length])
-}
-
-// Prints the line of a verdict, and answers whether it could be written.
-pub fn show<W: Write, E: Write>(output: &mut W, errors: &mut E, verdict: Verdict) -> bool
-    ensures { IsTrue result → Appends (W.contents output.old) (W.contents output.new) (line_of verdict) }
-{
-    let mut text = [0u8; Written::LONGEST];
-    let written = line::write(verdict, &mut text);
-    match written {
-        Written::Length(length) => print(output, errors, verdict, &text, length),
-        // the buffer is too short for no line
-        Written::Refused(_) => false,
-    }
+    let mut text = [0u8; line::LONGEST];
+    stream::write(output, errors, line_in(verdict, &mut text))
 }
 
 // Prints the line of a refusal on standard error.
 pub fn refuse<E: Write>(errors: &mut E, refusal: Refusal) {
-    let mut bytes = [0u8; Written::LONGEST];
+    let mut bytes = [0u8; line::LONGEST];
     let verdict = Verdict::Refused(refusal);
-    let written = line::write(verdict, &mut bytes);
-    if let Written::Length(length) = written {
-        complain(errors, verdict, &bytes, length);
-    }
+    complain(errors, verdict, line_in(verdict, &mut bytes));
 }
