@@ -1,7 +1,7 @@
 -- A stored table that is listed: the ways through the call on plain values, when it refuses, what it answers and what it leaves.
 -- Core: list_trains, list_leaves_lem, number_small. The rest is the laws of loading and of export in these words.
 -- Assumes nothing.
-use Prim.Native.Nat.{ℕ, zero, suc, ◌+◌, ◌*◌, ◌-◌, ◌<◌, ◌≤◌}
+use Prim.Native.Nat.{ℕ, zero, suc, ◌+◌, ◌*◌, ◌<◌, ◌≤◌}
 use mathlib.Core.Path.{◌≡◌, refl, sym, ap, subst, ◌∙◌}
 use mathlib.Core.Logic.{◌↔◌}
 use mathlib.Core.List.{List, ◌++◌, map}
@@ -9,6 +9,7 @@ use native.Mathlib.Omega.{arith}
 use lib.Dec.{ltb}
 use lib.ListN.{length, get_or, take, drop}
 use borrow.Author.Tests.{le-ltb}
+use Rattle.std.specs.Prelude.{Result, Ok, Err}
 use Rattle.refusal.specs.declared.Refusal.{Refusal}
 use Rattle.refusal.specs.declared.Refusal.TheVariants.{BufferTooShort}
 use Rattle.refusal.specs.Paper.{answers, refuse}
@@ -16,31 +17,25 @@ use Rattle.refusal.specs.Order.{None, Gives}
 use Rattle.refusal.proofs.Orders.{none_of_both}
 use Rattle.refusal.proofs.Answers.{answers_not_refuse}
 use Rattle.table.specs.declared.Entry.{Entry}
-use Rattle.table.specs.declared.Outcome.{Outcome}
-use Rattle.table.specs.declared.Outcome.TheVariants.{Passed, Refused}
 use Rattle.table.specs.Row.{numbers, longest_row, record_length, entries, no_entry, row_of, lowest_entry}
-use Rattle.table.specs.Answer.{test, or_else}
+use Rattle.table.specs.Answer.{Outcome, test, or_else}
 use Rattle.table.proofs.InOrder.{ltb_is, Follows, follows_then, follows_last}
 use Rattle.table.proofs.Following.{not_above}
 use Rattle.table.proofs.Rows.{row_entries}
-use Rattle.stored.specs.declared.Loaded.{Loaded}
-use Rattle.stored.specs.declared.Loaded.TheVariants as loads
 use Rattle.stored.specs.Layout.{head_length, longest, Bytes, StoredAs}
 use Rattle.stored.specs.Found.{number32, entry_in, records_in, count_in, trains_in}
 use Rattle.stored.specs.Given.{load_order}
 use Rattle.stored.specs.Answer.{head_check, load_check, loaded, loaded_in}
-use Rattle.stored.proofs.Following.{load_follows, loaded_refused, loaded_count}
+use Rattle.stored.proofs.Following.{load_follows, answer_refused, answer_value}
 use Rattle.stored.proofs.Loading.{head_passed, head_front, load_head}
 use Rattle.stored.proofs.Again.{layout_read, bytes_behind}
 use Rattle.stored.proofs.Accepted.{row_passes, row_few, accepted, accepted_row, accepted_stored, stored_loads}
 use Rattle.stored.proofs.RoundTrip.{all_already}
-use Rattle.listing.specs.declared.Exported.{Exported}
-use Rattle.listing.specs.declared.Exported.TheVariants as exports
 use Rattle.listing.specs.Layout.{text_of, longest_export, SmallEntry}
 use Rattle.listing.specs.Paper.{paper_exported}
-use Rattle.listing.specs.Answer.{export_check, exported_after, exported, exported_in}
+use Rattle.listing.specs.Answer.{export_check, exported, exported_in}
 use Rattle.listing.proofs.Layouts.{Sayable, text_within}
-use Rattle.listing.proofs.Exporting.{exported_is, exported_gives, exported_answers}
+use Rattle.listing.proofs.Answered.{answer_is, answer_gives, answer_passes}
 use Rattle.convert.specs.Given.{list_order}
 use Rattle.convert.specs.Answer.{list_answer, list_leaves, text_after}
 
@@ -54,84 +49,79 @@ pub stored_trains : (bs : List ℕ) (es : List Entry) → StoredAs bs es → tra
 stored_trains bs es stored = ap trains_in stored.layout ∙ layout_read es
 
 -- it is loaded into a row of the longest table
-stored_passes : (bs : List ℕ) (es : List Entry) → StoredAs bs es → load_check bs longest_row ≡ Passed
+stored_passes : (bs : List ℕ) (es : List Entry) → StoredAs bs es → load_check bs longest_row ≡ Ok tt
 stored_passes bs es stored =
-    ((loaded_count _ _ _).0 (stored_loads bs es longest_row stored (omega (arith, row_few es stored.passes)))).0
+    ((answer_value _ _ _).0 (stored_loads bs es longest_row stored (omega (arith, row_few es stored.passes)))).0
 
 -- ---- The answer
 
 -- of a stored table there is only the room for its text to be looked at
 pub list_passed :
     (bs : List ℕ) (es : List Entry) (room : ℕ) → StoredAs bs es →
-    list_answer bs room ≡ exported_after (test (ltb room (length (text_of es))) BufferTooShort) (length (text_of es))
+    list_answer bs room ≡ or_else (test (ltb room (length (text_of es))) BufferTooShort) (Ok (length (text_of es)))
 unfolding list_answer
 list_passed bs es room stored =
     λ i.
-    exported_after
+    or_else
     (or_else (stored_passes bs es stored i) (test (ltb room (length (text_of (stored_trains bs es stored i)))) BufferTooShort))
-    (length (text_of (stored_trains bs es stored i)))
+    (Ok (length (text_of (stored_trains bs es stored i))))
 
 -- and so there is to answer what export answers of its trains
 list_trains : (bs : List ℕ) (es : List Entry) (room : ℕ) → StoredAs bs es → exported (row_of es) room ≡ list_answer bs room
 unfolding export_check
 list_trains bs es room stored =
     (λ i.
-    exported_after
+    or_else
     (or_else (row_passes es stored.passes i) (test (ltb room (length (text_of (stored_lowest bs es stored i)))) BufferTooShort))
-    (length (text_of (stored_lowest bs es stored i))))
+    (Ok (length (text_of (stored_lowest bs es stored i)))))
     ∙ sym (list_passed bs es room stored)
 
 -- what export leaves of them is what is left of the table
 list_leaves_lem :
-    (bs before : List ℕ) (es : List Entry) (x : Exported) → StoredAs bs es → exported_in x (row_of es) before ≡ list_leaves x bs before
+    (bs before : List ℕ) (es : List Entry) (x : Result ℕ Refusal) → StoredAs bs es → exported_in x (row_of es) before ≡ list_leaves x bs before
 unfolding exported_in list_leaves
-list_leaves_lem bs before es (exports.Length n) stored =
+list_leaves_lem bs before es (Ok n) stored =
     ap (λ (fs : List Entry). text_of fs ++ drop n before) (stored_lowest bs es stored ∙ sym (stored_trains bs es stored))
-list_leaves_lem bs before es (exports.Refused r) stored = refl
+list_leaves_lem bs before es (Err r) stored = refl
 
 -- ---- The ways through the call
 
 -- a refusal leaves what there was
-pub list_refused_leaves : (bs before : List ℕ) (r : Refusal) → before ≡ list_leaves (exports.Refused r) bs before
+list_refused_leaves : (bs before : List ℕ) (r : Refusal) → before ≡ list_leaves (Err r) bs before
 unfolding list_leaves
 list_refused_leaves bs before r = refl
 
 -- a refusal of loading is handed on
-list_unloaded : (bs : List ℕ) (room : ℕ) (r : Refusal) → loaded bs longest_row ≡ loads.Refused r → list_answer bs room ≡ exports.Refused r
+list_unloaded : (bs : List ℕ) (room : ℕ) (r : Refusal) → loaded bs longest_row ≡ Err r → list_answer bs room ≡ Err r
 unfolding list_answer
 list_unloaded bs room r e =
     let n : ℕ = length (text_of (trains_in bs)) in
-    ap (λ (o : Outcome). exported_after (or_else o (test (ltb room n) BufferTooShort)) n)
-    ((loaded_refused (load_check bs longest_row) (count_in bs) r).0 e)
+    ap (λ (o : Outcome). or_else (or_else o (test (ltb room n) BufferTooShort)) (Ok n))
+    ((answer_refused (load_check bs longest_row) (count_in bs) r).0 e)
 
-module _ (bs : List ℕ) (answer : Loaded) (answer-is : answer ≡ loaded bs longest_row) where
-  pub list_stops : (room : ℕ) (r : Refusal) → answer ≡ loads.Refused r → exports.Refused r ≡ list_answer bs room
-  list_stops room r h = sym (list_unloaded bs room r (sym answer-is ∙ h))
+pub list_stops : (bs : List ℕ) (room : ℕ) (r : Refusal) → Err r ≡ loaded bs longest_row → Err r ≡ list_answer bs room
+list_stops bs room r h = sym (list_unloaded bs room r (sym h))
 
-  module _ (k : ℕ) (counted : answer ≡ loads.Count k) where
-    -- what was loaded is a part of the row
-    pub list_within : k * numbers ≤ longest_row
-    list_within = (accepted bs longest_row k (sym answer-is ∙ counted)).fits
+module _ (bs : List ℕ) (k : ℕ) (read : Ok k ≡ loaded bs longest_row) where
+  -- what was loaded is a part of the row
+  pub list_within : k * numbers ≤ longest_row
+  list_within = (accepted bs longest_row k (sym read)).fits
 
-    module _ (bytes : Bytes bs) (start row : List ℕ) (row_is : row ≡ loaded_in answer bs start) where
-      stored : StoredAs bs (trains_in bs)
-      stored = (accepted_stored bs longest_row k bytes (accepted bs longest_row k (sym answer-is ∙ counted))).0
+  module _ (bytes : Bytes bs) (start row : List ℕ) (row_is : row ≡ loaded_in (Ok k) bs start) where
+    stored : StoredAs bs (trains_in bs)
+    stored = (accepted_stored bs longest_row k bytes (accepted bs longest_row k (sym read))).0
 
-      -- it is the row of the trains
-      front : take (k * numbers - 0) row ≡ row_of (trains_in bs)
-      front =
-          let all : k * numbers - 0 ≡ k * numbers = omega arith in
-          ap (λ (n : ℕ). take n row) all
-          ∙ ap (take (k * numbers)) (row_is ∙ ap (λ (l : Loaded). loaded_in l bs start) counted)
-          ∙ accepted_row bs start longest_row k (accepted bs longest_row k (sym answer-is ∙ counted))
+    -- it is the row of the trains
+    front : take (k * numbers) row ≡ row_of (trains_in bs)
+    front = ap (take (k * numbers)) row_is ∙ accepted_row bs start longest_row k (accepted bs longest_row k (sym read))
 
-      pub list_exports : (room : ℕ) (x : Exported) → x ≡ exported (take (k * numbers - 0) row) room → x ≡ list_answer bs room
-      list_exports room x x-is = x-is ∙ ap (λ (l : List ℕ). exported l room) front ∙ list_trains bs (trains_in bs) room stored
+    pub list_exports : (room : ℕ) (x : Result ℕ Refusal) → x ≡ exported (take (k * numbers) row) room → x ≡ list_answer bs room
+    list_exports room x x-is = x-is ∙ ap (λ (l : List ℕ). exported l room) front ∙ list_trains bs (trains_in bs) room stored
 
-      pub list_puts :
-          (before now : List ℕ) (x : Exported) → now ≡ exported_in x (take (k * numbers - 0) row) before → now ≡ list_leaves x bs before
-      list_puts before now x now-is =
-          now-is ∙ ap (λ (l : List ℕ). exported_in x l before) front ∙ list_leaves_lem bs before (trains_in bs) x stored
+    pub list_puts :
+        (before now : List ℕ) (x : Result ℕ Refusal) → now ≡ exported_in x (take (k * numbers) row) before → now ≡ list_leaves x bs before
+    list_puts before now x now-is =
+        now-is ∙ ap (λ (l : List ℕ). exported_in x l before) front ∙ list_leaves_lem bs before (trains_in bs) x stored
 
 -- ---- Refusals
 
@@ -144,18 +134,18 @@ module _ (bs : List ℕ) (room : ℕ) where
 
   pub list_refused : (number train : ℕ) → (paper_exported (list_answer bs room) ≡ refuse number train) ↔ Gives (list_order bs room) number train
   unfolding list_answer
-  list_refused = exported_gives _ (list_order bs room) list_follows _
+  list_refused = answer_gives _ (list_order bs room) list_follows _
 
   -- where none holds the length of the text is answered
   pub list_none :
       (n : ℕ) → (paper_exported (list_answer bs room) ≡ answers n) ↔ (None (list_order bs room) × (n ≡ length (text_of (trains_in bs))))
   unfolding list_answer
-  list_none = exported_answers _ (list_order bs room) list_follows _
+  list_none = answer_passes _ (list_order bs room) list_follows _
 
 refusal_keeps :
-    (x : Exported) (bs before : List ℕ) (number train : ℕ) → paper_exported x ≡ refuse number train → list_leaves x bs before ≡ before
-refusal_keeps (exports.Length n) bs before number train e = absurd (answers_not_refuse e)
-refusal_keeps (exports.Refused r) bs before number train e = sym (list_refused_leaves bs before r)
+    (x : Result ℕ Refusal) (bs before : List ℕ) (number train : ℕ) → paper_exported x ≡ refuse number train → list_leaves x bs before ≡ before
+refusal_keeps (Ok n) bs before number train e = absurd (answers_not_refuse e)
+refusal_keeps (Err r) bs before number train e = sym (list_refused_leaves bs before r)
 
 pub list_keeps :
     (bs before : List ℕ) (number train : ℕ) →
@@ -183,7 +173,7 @@ list_answers bs room n bytes = (there, back)
         let told = (list_none bs room n).0 e in
         let both = (none_of_both (load_order bs longest_row) _).0 told.0 in
         let passed = (load_follows bs longest_row).passed.1 both.0 in
-        let a = accepted bs longest_row (count_in bs) ((loaded_count _ _ _).1 (passed, refl)) in
+        let a = accepted bs longest_row (count_in bs) ((answer_value _ _ _).1 (passed, refl)) in
         (trains_in bs, (accepted_stored bs longest_row (count_in bs) bytes a).0, told.1, omega (arith, told.1, not_above both.1.0))
 
     back : (es : List Entry) × StoredAs bs es × (n ≡ length (text_of es)) × (n ≤ room) → paper_exported (list_answer bs room) ≡ answers n
@@ -194,7 +184,7 @@ pub list_written :
     text_after bs before ≡ text_of es ++ drop n before
 unfolding list_leaves
 list_written bs before es n stored e =
-    ap (λ (x : Exported). list_leaves x bs before) ((exported_is (list_answer bs (length before)) n).0 e)
+    ap (λ (x : Result ℕ Refusal). list_leaves x bs before) ((answer_is (list_answer bs (length before)) n).0 e)
     ∙ ap (λ (fs : List Entry). text_of fs ++ drop n before) (stored_trains bs es stored)
 
 -- ---- Numbers that are read from bytes
@@ -250,7 +240,7 @@ list_front bs room h = go (head_check bs) refl
     front = take (longest + 1) bs
 
     go : (o : Outcome) → head_check bs ≡ o → list_answer front room ≡ list_answer bs room
-    go Passed e = let found = head_passed bs e in absurd (omega (arith, found.whole, found.few))
-    go (Refused r) e =
+    go (Ok u) e = let found = head_passed bs e in absurd (omega (arith, found.whole, found.few))
+    go (Err r) e =
         list_unloaded front room r (sym (load_head front longest_row (head_check bs) (sym (head_front bs h)) r e))
         ∙ sym (list_unloaded bs room r (sym (load_head bs longest_row (head_check bs) refl r e)))

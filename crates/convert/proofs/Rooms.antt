@@ -20,9 +20,9 @@ use Rattle.table.proofs.Following.{checked_follows, checked_length}
 use Rattle.stored.specs.Layout.{length_of, longest, Bytes}
 use Rattle.stored.specs.Found.{count_in, trains_in}
 use Rattle.stored.specs.Given.{stored_checks, head_checks, load_order}
-use Rattle.stored.specs.Paper.{paper_saved}
+use Rattle.stored.specs.Paper.{paper_answer}
 use Rattle.stored.specs.Answer.{saved}
-use Rattle.stored.proofs.Following.{head_follows, load_follows, loaded_count}
+use Rattle.stored.proofs.Following.{head_follows, load_follows, answer_value}
 use Rattle.stored.proofs.Loading.{head_passed}
 use Rattle.stored.proofs.Numbers.{save_refused}
 use Rattle.stored.proofs.Accepted.{accepted, accepted_stored}
@@ -106,7 +106,7 @@ refuse_number e = cc
 
 -- ---- The calls
 
-save_room : (row : List ℕ) (room place : ℕ) → longest ≤ room → paper_saved (saved row room) ≡ refuse 8 place → ⊥
+save_room : (row : List ℕ) (room place : ℕ) → longest ≤ room → paper_answer (saved row room) ≡ refuse 8 place → ⊥
 save_room row room place long e =
     let given = (save_refused row room 8 place).0 e in
     room_other (checked_order row) room (length_of (length (entries row))) given.0
@@ -114,13 +114,13 @@ save_room row room place long e =
     (λ none. omega (arith, long, entries_few row (checked_length row ((checked_follows row).passed.1 none))))
     given.1 (ap (λ (p : Printed). p.number) given.2)
 
-pub store_room : (text : List ℕ) (room place : ℕ) → longest ≤ room → paper_saved (store_answer text room) ≡ refuse 8 place → ⊥
+pub store_room : (text : List ℕ) (room place : ℕ) → longest ≤ room → paper_answer (store_answer text room) ≡ refuse 8 place → ⊥
 store_room text room place long e = go (told text)
   where
     go : Told text → ⊥
-    go (is_long h) = let z = refuse_number (sym (ap paper_saved (store_long text room h)) ∙ e) in omega (arith, z)
-    go (is_bad k h y) = let z = refuse_number (sym (ap paper_saved (store_bad text room k h y)) ∙ e) in omega (arith, z)
-    go (is_list es h y) = save_room (row_of es) room place long (sym (ap paper_saved (store_lists text es room h y)) ∙ e)
+    go (is_long h) = let z = refuse_number (sym (ap paper_answer (store_long text room h)) ∙ e) in omega (arith, z)
+    go (is_bad k h y) = let z = refuse_number (sym (ap paper_answer (store_bad text room k h y)) ∙ e) in omega (arith, z)
+    go (is_list es h y) = save_room (row_of es) room place long (sym (ap paper_answer (store_lists text es room h y)) ∙ e)
 
 -- a row of the longest table has room for the trains of any file
 load_other : (bs : List ℕ) (r : Refusal) → First (load_order bs longest_row) r → (paper r).number ≡ 8 → ⊥
@@ -139,6 +139,6 @@ list_room bs room place bytes long e =
     let given = (list_refused bs room 8 place).0 e in
     room_other (load_order bs longest_row) room (length (text_of (trains_in bs))) given.0 (load_other bs given.0)
     (λ none.
-    let a = accepted bs longest_row (count_in bs) ((loaded_count _ _ _).1 ((load_follows bs longest_row).passed.1 none, refl)) in
+    let a = accepted bs longest_row (count_in bs) ((answer_value _ _ _).1 ((load_follows bs longest_row).passed.1 none, refl)) in
     omega (arith, long, stored_within bs (trains_in bs) bytes (accepted_stored bs longest_row (count_in bs) bytes a).0))
     given.1 (ap (λ (p : Printed). p.number) given.2)

@@ -1,5 +1,5 @@
 -- From what the calls answer to what a program hands on: the bytes that were written stand at the start of the buffer.
--- Core: store_stands, list_stands.
+-- Core: table_long, listing_long. The rest follows from these.
 -- Assumes nothing.
 use Prim.Native.Nat.{ℕ, ◌≤◌}
 use mathlib.Core.Path.{◌≡◌, sym, ap, ◌∙◌}
@@ -7,15 +7,12 @@ use mathlib.Core.List.{List, ◌++◌, map}
 use native.Mathlib.Omega.{arith}
 use lib.ListN.{length, take, drop, length-map, length-append}
 use lib.Seq.{take_at}
+use Rattle.std.specs.Prelude.{Ok}
 use Rattle.table.specs.Row.{lowest_entry}
-use Rattle.stored.specs.declared.Saved.{Saved}
-use Rattle.stored.specs.declared.Saved.TheVariants as saves
 use Rattle.stored.specs.Layout.{bytes_of, length_of}
 use Rattle.stored.specs.Found.{trains_in}
-use Rattle.stored.specs.Paper.{paper_saved}
+use Rattle.stored.specs.Paper.{paper_answer}
 use Rattle.stored.proofs.Lengths.{layout_length}
-use Rattle.listing.specs.declared.Exported.{Exported}
-use Rattle.listing.specs.declared.Exported.TheVariants as exports
 use Rattle.listing.specs.Layout.{text_of}
 use Rattle.listing.specs.Paper.{paper_exported}
 use Rattle.listing.specs.Answer.{listed, trains_of}
@@ -32,40 +29,46 @@ front_within l rest after n long put = omega (arith, ap length put, length-appen
 front_is : (l rest after : List ℕ) (n : ℕ) → length l ≡ n → after ≡ l ++ rest → take n after ≡ l
 front_is l rest after n long put = ap (take n) put ∙ take_at l rest n long
 
-pub store_stands :
-    (text before after : List ℕ) (answer : Saved) (n : ℕ) → answer ≡ store_answer text (length before) → answer ≡ saves.Length n →
-    after ≡ store_leaves answer text before → StoredOf text n after
-unfolding store_leaves
-store_stands text before after answer n answer-is wrote after_is =
-    record { within = front_within table (drop n before) after n long put; table = front_is table (drop n before) after n long put }
+module _
+    (text before after : List ℕ) (n : ℕ) (answered : Ok n ≡ store_answer text (length before))
+    (left : after ≡ store_leaves (Ok n) text before) where
+  abbrev table : List ℕ
+  table = bytes_of (map lowest_entry (trains_of (listed text)))
+
+  table_long : length table ≡ n
+  table_long =
+      let found = ((store_answers text (length before) n).0 (ap paper_answer (sym answered))).1 in
+      let count : length (trains_of (listed text)) ≡ length found.0 =
+      ap length (ap trains_of (listing_read text found.0 found.1)) in
+      layout_length (map lowest_entry (trains_of (listed text)))
+      ∙ ap length_of (length-map (trains_of (listed text)) lowest_entry ∙ count)
+      ∙ sym found.3
+
+  table_put : after ≡ table ++ drop n before
+  unfolding store_leaves
+  table_put = left
+
+  pub store_fits : n ≤ length after
+  store_fits = front_within table (drop n before) after n table_long table_put
+
+  pub store_stands : StoredOf text (take n after)
+  store_stands = front_is table (drop n before) after n table_long table_put
+
+module _
+    (bs before after : List ℕ) (n : ℕ) (answered : Ok n ≡ list_answer bs (length before)) (left : after ≡ list_leaves (Ok n) bs before)
   where
-    table : List ℕ
-    table = bytes_of (map lowest_entry (trains_of (listed text)))
+    abbrev listing : List ℕ
+    listing = text_of (trains_in bs)
 
-    long : length table ≡ n
-    long =
-        let found = ((store_answers text (length before) n).0 (ap paper_saved (sym answer-is ∙ wrote))).1 in
-        let count : length (trains_of (listed text)) ≡ length found.0 =
-        ap length (ap trains_of (listing_read text found.0 found.1)) in
-        layout_length (map lowest_entry (trains_of (listed text)))
-        ∙ ap length_of (length-map (trains_of (listed text)) lowest_entry ∙ count)
-        ∙ sym found.3
+    listing_long : length listing ≡ n
+    listing_long = sym ((list_none bs (length before) n).0 (ap paper_exported (sym answered))).1
 
-    put : after ≡ table ++ drop n before
-    put = after_is ∙ ap (λ (a : Saved). store_leaves a text before) wrote
+    listing_put : after ≡ listing ++ drop n before
+    unfolding list_leaves
+    listing_put = left
 
-pub list_stands :
-    (bs before after : List ℕ) (answer : Exported) (n : ℕ) → answer ≡ list_answer bs (length before) → answer ≡ exports.Length n →
-    after ≡ list_leaves answer bs before → ListedOf bs n after
-unfolding list_leaves
-list_stands bs before after answer n answer-is wrote after_is =
-    record { within = front_within text (drop n before) after n long put; listing = front_is text (drop n before) after n long put }
-  where
-    text : List ℕ
-    text = text_of (trains_in bs)
+    pub list_fits : n ≤ length after
+    list_fits = front_within listing (drop n before) after n listing_long listing_put
 
-    long : length text ≡ n
-    long = sym ((list_none bs (length before) n).0 (ap paper_exported (sym answer-is ∙ wrote))).1
-
-    put : after ≡ text ++ drop n before
-    put = after_is ∙ ap (λ (a : Exported). list_leaves a bs before) wrote
+    pub list_stands : ListedOf bs (take n after)
+    list_stands = front_is listing (drop n before) after n listing_long listing_put

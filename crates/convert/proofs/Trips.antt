@@ -11,7 +11,7 @@ use Rattle.refusal.specs.Paper.{answers}
 use Rattle.table.specs.declared.Entry.{Entry}
 use Rattle.table.specs.Row.{lowest_entry}
 use Rattle.stored.specs.Layout.{bytes_of, length_of, Bytes}
-use Rattle.stored.specs.Paper.{paper_saved}
+use Rattle.stored.specs.Paper.{paper_answer}
 use Rattle.stored.proofs.Lengths.{layout_length}
 use Rattle.stored.proofs.RoundTrip.{all_already}
 use Rattle.listing.specs.Means.{Listing}
@@ -23,7 +23,7 @@ use Rattle.convert.proofs.Storing.{store_answers, store_written}
 use Rattle.convert.proofs.Listings.{list_stored, list_answers, list_written, stored_sayable, stored_within}
 
 pub list_after_store :
-    (text before out : List ℕ) (es : List Entry) (n : ℕ) → Listing text es → paper_saved (store_answer text (length before)) ≡ answers n →
+    (text before out : List ℕ) (es : List Entry) (n : ℕ) → Listing text es → paper_answer (store_answer text (length before)) ≡ answers n →
     length (text_of (map lowest_entry es)) ≤ length out →
     (paper_exported (list_answer (take n (bytes_after text before)) (length out)) ≡ answers (length (text_of (map lowest_entry es))))
     × (text_after (take n (bytes_after text before)) out ≡ text_of (map lowest_entry es) ++ drop (length (text_of (map lowest_entry es))) out)
@@ -35,7 +35,7 @@ list_after_store text before out es n lists e room =
 
 pub store_after_list :
     (bs before out : List ℕ) (n : ℕ) → Bytes bs → paper_exported (list_answer bs (length before)) ≡ answers n → length bs ≤ length out →
-    (paper_saved (store_answer (take n (text_after bs before)) (length out)) ≡ answers (length bs))
+    (paper_answer (store_answer (take n (text_after bs before)) (length out)) ≡ answers (length bs))
     × (bytes_after (take n (text_after bs before)) out ≡ bs ++ drop (length bs) out)
 store_after_list bs before out n bytes e room =
     let found = (list_answers bs (length before) n bytes).0 e in
@@ -49,7 +49,7 @@ store_after_list bs before out n bytes e room =
     let answer = (store_answers (text_of es) (length out) (length bs)).1 (short, (es, lists, stored.passes, long, room)) in
     subst
     (λ (l : List ℕ).
-    (paper_saved (store_answer l (length out)) ≡ answers (length bs)) × (bytes_after l out ≡ bs ++ drop (length bs) out))
+    (paper_answer (store_answer l (length out)) ≡ answers (length bs)) × (bytes_after l out ≡ bs ++ drop (length bs) out))
     (sym text) (
       answer,
       (store_written (text_of es) out es (length bs) lists answer).0

@@ -6,37 +6,32 @@
 --     list_answer bs room                what `list` answers
 --     list_leaves answer bs before       what it leaves in the buffer
 --     text_after bs before               the same, with the answer that it gives
-use Rattle.std.specs.Prelude.{ℕ, List, ◌++◌, map, ltb, length, drop}
+use Rattle.std.specs.Prelude.{ℕ, List, ◌++◌, map, ltb, length, drop, Result, Ok, Err}
+use Rattle.refusal.specs.declared.Refusal.{Refusal}
 use Rattle.refusal.specs.declared.Refusal.TheVariants.{BufferTooShort}
 use Rattle.table.specs.Row.{longest_row, lowest_entry}
 use Rattle.table.specs.Answer.{test, or_else}
-use Rattle.stored.specs.declared.Saved.{Saved}
-use Rattle.stored.specs.declared.Saved.TheVariants as saves
 use Rattle.stored.specs.Layout.{bytes_of, length_of}
 use Rattle.stored.specs.Found.{trains_in}
-use Rattle.stored.specs.Answer.{saved_after, load_check}
-use Rattle.listing.specs.declared.Imported.{Imported}
-use Rattle.listing.specs.declared.Imported.TheVariants as imports
-use Rattle.listing.specs.declared.Exported.{Exported}
-use Rattle.listing.specs.declared.Exported.TheVariants as exports
+use Rattle.stored.specs.Answer.{load_check}
 use Rattle.listing.specs.Layout.{text_of}
-use Rattle.listing.specs.Answer.{listed, trains_of, imported, exported_after}
+use Rattle.listing.specs.Answer.{listed, trains_of, imported}
 
 -- ---- A listing, stored
 
 -- Of trains that were imported there is only the room to be looked at: 8, or the length of their stored table.
-unfoldable pub store_after : Imported → (room : ℕ) → Saved
-store_after (imports.Count k) room = saved_after (test (ltb room (length_of k)) BufferTooShort) (length_of k)
-store_after (imports.Refused r) room = saves.Refused r
+unfoldable pub store_after : Result ℕ Refusal → (room : ℕ) → Result ℕ Refusal
+store_after (Ok k) room = or_else (test (ltb room (length_of k)) BufferTooShort) (Ok (length_of k))
+store_after (Err r) room = Err r
 
 -- The refusals of import, to a row of the longest table, then 8; or the length that was written.
-abbrev pub store_answer : (text : List ℕ) (room : ℕ) → Saved
+abbrev pub store_answer : (text : List ℕ) (room : ℕ) → Result ℕ Refusal
 store_answer text room = store_after (imported text longest_row) room
 
 -- After a length the buffer has the layout of the trains of the listing in lowest terms and then what it had; after a refusal all that it had.
-unfoldable pub store_leaves : Saved → (text before : List ℕ) → List ℕ
-store_leaves (saves.Length n) text before = bytes_of (map lowest_entry (trains_of (listed text))) ++ drop n before
-store_leaves (saves.Refused r) text before = before
+unfoldable pub store_leaves : Result ℕ Refusal → (text before : List ℕ) → List ℕ
+store_leaves (Ok n) text before = bytes_of (map lowest_entry (trains_of (listed text))) ++ drop n before
+store_leaves (Err r) text before = before
 
 -- What stands in a buffer after `store` was called with it.
 abbrev pub bytes_after : (text before : List ℕ) → List ℕ
@@ -45,15 +40,15 @@ bytes_after text before = store_leaves (store_answer text (length before)) text 
 -- ---- A stored table, listed
 
 -- The refusals of loading into a row of the longest table, then 8; or the length of the text of the trains.
-unfoldable pub list_answer : (bs : List ℕ) (room : ℕ) → Exported
+unfoldable pub list_answer : (bs : List ℕ) (room : ℕ) → Result ℕ Refusal
 list_answer bs room =
-    exported_after (or_else (load_check bs longest_row) (test (ltb room (length (text_of (trains_in bs)))) BufferTooShort))
-    (length (text_of (trains_in bs)))
+    or_else (or_else (load_check bs longest_row) (test (ltb room (length (text_of (trains_in bs)))) BufferTooShort))
+    (Ok (length (text_of (trains_in bs))))
 
 -- After a length the buffer has the text of the trains of the stored table and then what it had; after a refusal all that it had.
-unfoldable pub list_leaves : Exported → (bs before : List ℕ) → List ℕ
-list_leaves (exports.Length n) bs before = text_of (trains_in bs) ++ drop n before
-list_leaves (exports.Refused r) bs before = before
+unfoldable pub list_leaves : Result ℕ Refusal → (bs before : List ℕ) → List ℕ
+list_leaves (Ok n) bs before = text_of (trains_in bs) ++ drop n before
+list_leaves (Err r) bs before = before
 
 -- What stands in a buffer after `list` was called with it.
 abbrev pub text_after : (bs before : List ℕ) → List ℕ

@@ -1,27 +1,25 @@
 -- `list` meets its contract: a refusal of loading, or what is exported from the row that was loaded.
+use mathlib.Core.Path.{sym}
 use native.Mathlib.Omega.{arith}
-use Rattle.convert.proofs.Listings.{list_refused_leaves, list_stops, list_within, list_exports, list_puts}
+use lib.ListN.{length}
+use lib.Seq.{length-take-le}
+use Rattle.std.proofs.Common.{rules}
+use Rattle.convert.proofs.Listings.{list_stops, list_within, list_exports, list_puts}
 use Rattle.convert.proofs.list.Goals as goal
 
-pub overflow_mul-count : goal.overflow_mul-count
-overflow_mul-count c = omega (arith, list_within _ _ c.load-loaded.ensures.answer _ c.in-Count.is)
+pub returns-in_err-count-clause-answer : goal.returns-in_err-count-clause-answer
+returns-in_err-count-clause-answer c =
+    let k = list_stops _ (length c.args.text.now) _ c.in_err-count.ensures.answer in search (rules, k)
 
 pub slice_bounds-export-end : goal.slice_bounds-export-end
-slice_bounds-export-end c =
-    omega (arith, list_within _ _ c.load-loaded.ensures.answer _ c.in-Count.is, c.load-loaded.auto.row)
+slice_bounds-export-end c = sym (length-take-le _ _ (omega (arith, list_within _ _ c.in_ok-count.ensures.answer)))
 
-pub returns-in-Refused : goal.returns-in-Refused
-returns-in-Refused c =
-    record {
-      answer = list_stops _ _ c.load-loaded.ensures.answer _ _ c.in-Refused.is;
-      memory = list_refused_leaves _ _ _;
-    }
+pub returns-clause-answer : goal.returns-clause-answer
+returns-clause-answer c =
+    let read = c.in_ok-count.ensures in
+    list_exports _ _ read.answer (λ i. (c.type_inv.bytes i).fits) _ _ read.entries _ _ c.export.ensures.answer
 
-pub returns-in-Count : goal.returns-in-Count
-returns-in-Count c =
-    let read = c.load-loaded.ensures in
-    let written = c.export.ensures in
-    record {
-      answer = list_exports _ _ read.answer _ c.in-Count.is (λ i. (c.type_inv.bytes i).fits) _ _ read.entries _ _ written.answer;
-      memory = list_puts _ _ read.answer _ c.in-Count.is (λ i. (c.type_inv.bytes i).fits) _ _ read.entries _ _ _ written.bytes;
-    }
+pub returns-clause-memory : goal.returns-clause-memory
+returns-clause-memory c =
+    let read = c.in_ok-count.ensures in
+    list_puts _ _ read.answer (λ i. (c.type_inv.bytes i).fits) _ _ read.entries _ _ _ c.export.ensures.bytes
