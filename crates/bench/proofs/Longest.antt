@@ -7,6 +7,7 @@ use native.Mathlib.Decide.{dec_lt}
 use native.Mathlib.Nat.{div-le_self, mul-le-mul, mul-le-mul_right, max-le, le_of_dvd, dvd_refl}
 use native.Mathlib.Omega.{arith}
 use lib.ListN.{length}
+use Rattle.std.specs.Prelude.{Ok}
 use Rattle.euclid.specs.Answer.{gcd, lcm}
 use Rattle.euclid.proofs.Multiple.{lcm_is}
 use Rattle.train.specs.declared.Train.{Train}
@@ -15,7 +16,6 @@ use Rattle.train.specs.Answer.{reach}
 use Rattle.judge.specs.declared.Verdict.{Verdict}
 use Rattle.judge.specs.Paper.{Shown, accept, collide, refuse}
 use Rattle.decimal.proofs.Notation.{decimal_length}
-use Rattle.line.specs.declared.Written.TheVariants as writes
 use Rattle.line.specs.Answer.{accept_word, refuse_word, line, line_of, written}
 use Rattle.line.proofs.Lines.{two_length, collide_length, answer_room}
 use Rattle.bench.specs.Answer.{longest_line}
@@ -76,7 +76,7 @@ short_line (refuse number train) w =
 
 -- as much room as the longest line has is enough for a line that is no longer
 pub room_suffices :
-    (v : Verdict) (room : ℕ) → length (line_of v) ≤ longest_line → longest_line ≤ room → written v room ≡ writes.Length (length (line_of v))
+    (v : Verdict) (room : ℕ) → length (line_of v) ≤ longest_line → longest_line ≤ room → written v room ≡ Ok (length (line_of v))
 room_suffices v room h enough =
     let from-the-front : 0 + length (line_of v) ≡ length (line_of v) = omega arith in
-    answer_room (line_of v) 0 room (omega arith) ∙ ap (λ (n : ℕ). writes.Length n) from-the-front
+    answer_room (line_of v) 0 room (omega arith) ∙ ap (λ (n : ℕ). Ok n) from-the-front

@@ -5,6 +5,7 @@
 --                             the kinds of a verdict
 --     idle_kind, starts_kind, goes_on_kind
 --                             the kinds of a step
+--     kind_number kind          the number of a kind of the code
 --     Parts                     a refusal's number, a kind and a value
 --     kind_unit, number_unit    what one kind counts in the number that is handed back, and one number of a refusal
 --     code p                    the number that holds the three
@@ -12,38 +13,24 @@
 --     Fits p                    each of the three has room in the number
 --     plain kind value          a call that was not refused
 --     refused_parts r           a call that was refused: the paper's number, and its train or place
---     verdict_parts v, written_parts w, saved_parts s, loaded_parts l, imported_parts i, exported_parts e, admission_parts a,
---     withdrawal_parts w, tick_parts t
---                             the three of each answer
---     verdict_code v, written_code w, saved_code s, loaded_code l, imported_code i, exported_code e, admission_code a,
---     withdrawal_code w, tick_code t
---                             the number of each answer
+--     verdict_parts v, value_parts a, withdrawal_parts w, tick_parts t
+--                             the three of a verdict, of a length, a count or a place, of a withdrawal, and of a step
+--     verdict_code v, value_code a, withdrawal_code w, tick_code t
+--                             the number of each
 --     Seen refused answer    whether a call was refused is seen in its number in two ways, and both are right
 --     figure_count           how many figures there are
 --     figures_in v before    the figures after a verdict
 --     longest_line           the bytes of the longest line that a call writes
-use Rattle.std.specs.Prelude.{ℕ, ◌+◌, ◌*◌, ◌/◌, ◌%◌, ◌^◌, ◌<◌, ◌≡◌, ◌↔◌, List, [], ◌∷◌}
+use Rattle.std.specs.Prelude.{ℕ, ◌+◌, ◌*◌, ◌/◌, ◌%◌, ◌^◌, ◌<◌, ◌≡◌, ◌↔◌, List, [], ◌∷◌, Result, Ok, Err}
 use Rattle.std.proofs.lemmas.List.Edits.{sets}
 use Rattle.refusal.specs.declared.Refusal.{Refusal}
 use Rattle.refusal.specs.Paper.{paper}
 use Rattle.judge.specs.declared.Verdict.{Verdict}
 use Rattle.judge.specs.declared.Verdict.TheVariants as verdicts
-use Rattle.stored.specs.declared.Saved.{Saved}
-use Rattle.stored.specs.declared.Saved.TheVariants as saves
-use Rattle.stored.specs.declared.Loaded.{Loaded}
-use Rattle.stored.specs.declared.Loaded.TheVariants as loads
-use Rattle.listing.specs.declared.Imported.{Imported}
-use Rattle.listing.specs.declared.Imported.TheVariants as imports
-use Rattle.listing.specs.declared.Exported.{Exported}
-use Rattle.listing.specs.declared.Exported.TheVariants as exports
-use Rattle.line.specs.declared.Written.{Written}
-use Rattle.line.specs.declared.Written.TheVariants as writes
-use Rattle.dispatcher.specs.declared.Admission.{Admission}
-use Rattle.dispatcher.specs.declared.Admission.TheVariants as admissions
-use Rattle.dispatcher.specs.declared.Withdrawal.{Withdrawal}
-use Rattle.dispatcher.specs.declared.Withdrawal.TheVariants as withdrawals
 use Rattle.dispatcher.specs.declared.Tick.{Tick}
 use Rattle.dispatcher.specs.declared.Tick.TheVariants as ticks
+use Rattle.bench.specs.declared.Kind.{Kind}
+use Rattle.bench.specs.declared.Kind.TheVariants as kinds
 
 -- A call that was refused. A number of zeros is so no answer that can be taken for a good one.
 abbrev pub refused_kind : ℕ
@@ -72,6 +59,16 @@ starts_kind = 5
 -- A tick on which a run goes on.
 abbrev pub goes_on_kind : ℕ
 goes_on_kind = 6
+
+-- The number of each kind that the code has.
+abbrev pub kind_number : Kind → ℕ
+kind_number kinds.Refused = refused_kind
+kind_number kinds.Done = done_kind
+kind_number kinds.Accepted = accepted_kind
+kind_number kinds.Collide = collide_kind
+kind_number kinds.Idle = idle_kind
+kind_number kinds.Starts = starts_kind
+kind_number kinds.GoesOn = goes_on_kind
 
 -- What an answer holds: the number of the refusal, which is 0 where there is none, a kind, and a place, a length or a count.
 pub record Parts : Type 0 where
@@ -115,82 +112,38 @@ verdict_parts (verdicts.Accepted figures) = plain accepted_kind 0
 verdict_parts (verdicts.Collide meeting figures) = plain collide_kind 0
 verdict_parts (verdicts.Refused r) = refused_parts r
 
--- The length of the line.
-abbrev pub written_parts : Written → Parts
-written_parts (writes.Length n) = plain done_kind n
-written_parts (writes.Refused r) = refused_parts r
-
--- The length of the stored table.
-abbrev pub saved_parts : Saved → Parts
-saved_parts (saves.Length n) = plain done_kind n
-saved_parts (saves.Refused r) = refused_parts r
-
--- The count of trains.
-abbrev pub loaded_parts : Loaded → Parts
-loaded_parts (loads.Count k) = plain done_kind k
-loaded_parts (loads.Refused r) = refused_parts r
-
--- The count of trains.
-abbrev pub imported_parts : Imported → Parts
-imported_parts (imports.Count k) = plain done_kind k
-imported_parts (imports.Refused r) = refused_parts r
-
--- The length of the listing.
-abbrev pub exported_parts : Exported → Parts
-exported_parts (exports.Length n) = plain done_kind n
-exported_parts (exports.Refused r) = refused_parts r
-
--- The place of the train.
-abbrev pub admission_parts : Admission → Parts
-admission_parts (admissions.At q) = plain done_kind q
-admission_parts (admissions.Refused r) = refused_parts r
+-- The length of a line, of a stored table or of a listing, the count of the trains that were loaded or imported, or the place of a
+-- train that was admitted.
+abbrev pub value_parts : Result ℕ Refusal → Parts
+value_parts (Ok n) = plain done_kind n
+value_parts (Err r) = refused_parts r
 
 -- A withdrawal has nothing to say but that it was done.
-abbrev pub withdrawal_parts : Withdrawal → Parts
-withdrawal_parts withdrawals.Withdrawn = plain done_kind 0
-withdrawal_parts (withdrawals.Refused r) = refused_parts r
+abbrev pub withdrawal_parts : Result (Unit {0}) Refusal → Parts
+withdrawal_parts (Ok done) = plain done_kind 0
+withdrawal_parts (Err r) = refused_parts r
 
 -- A start and a run that goes on have their place.
-abbrev pub tick_parts : Tick → Parts
-tick_parts ticks.Idle = plain idle_kind 0
-tick_parts (ticks.Starts q) = plain starts_kind q
-tick_parts (ticks.GoesOn q) = plain goes_on_kind q
-tick_parts (ticks.Refused r) = refused_parts r
+abbrev pub tick_parts : Result Tick Refusal → Parts
+tick_parts (Ok ticks.Idle) = plain idle_kind 0
+tick_parts (Ok (ticks.Starts q)) = plain starts_kind q
+tick_parts (Ok (ticks.GoesOn q)) = plain goes_on_kind q
+tick_parts (Err r) = refused_parts r
 
 -- The number of a verdict.
 abbrev pub verdict_code : Verdict → ℕ
 verdict_code v = code (verdict_parts v)
 
--- The number of a line that was written.
-abbrev pub written_code : Written → ℕ
-written_code w = code (written_parts w)
-
--- The number of a table that was saved.
-abbrev pub saved_code : Saved → ℕ
-saved_code s = code (saved_parts s)
-
--- The number of a table that was loaded.
-abbrev pub loaded_code : Loaded → ℕ
-loaded_code l = code (loaded_parts l)
-
--- The number of a listing that was imported.
-abbrev pub imported_code : Imported → ℕ
-imported_code i = code (imported_parts i)
-
--- The number of a listing that was exported.
-abbrev pub exported_code : Exported → ℕ
-exported_code e = code (exported_parts e)
-
--- The number of an admission.
-abbrev pub admission_code : Admission → ℕ
-admission_code a = code (admission_parts a)
+-- The number of a length, a count or a place.
+abbrev pub value_code : Result ℕ Refusal → ℕ
+value_code a = code (value_parts a)
 
 -- The number of a withdrawal.
-abbrev pub withdrawal_code : Withdrawal → ℕ
+abbrev pub withdrawal_code : Result (Unit {0}) Refusal → ℕ
 withdrawal_code w = code (withdrawal_parts w)
 
 -- The number of a step.
-abbrev pub tick_code : Tick → ℕ
+abbrev pub tick_code : Result Tick Refusal → ℕ
 tick_code t = code (tick_parts t)
 
 -- A call was refused exactly when the kind of its number is that of refusals, and exactly when a refusal's number is in it.

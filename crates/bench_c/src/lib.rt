@@ -9,7 +9,7 @@ ghost use Rattle.listing.specs.Answer.{imported, imported_in, exported, exported
 ghost use Rattle.line.specs.Answer.{written, written_in};
 ghost use Rattle.stored.specs.Answer.{saved, saved_in, loaded, loaded_in};
 ghost use Rattle.words.specs.Answer.{admission_in, withdrawal_in, stepping_in, fresh_in, admitted_in, withdrew_in, stepped_in};
-ghost use Rattle.bench.specs.Answer.{verdict_code, written_code, saved_code, loaded_code, imported_code, exported_code, admission_code, withdrawal_code, tick_code, figure_count, figures_in, longest_line};
+ghost use Rattle.bench.specs.Answer.{verdict_code, value_code, withdrawal_code, tick_code, figure_count, figures_in, longest_line};
 
 use bench::{FIGURES, LONGEST_LINE};
 
@@ -35,7 +35,7 @@ pub extern "C" fn urzabelki_judge_stored(bytes: &[u8], figures: &mut [u64; FIGUR
 // The printed line of the verdict on a row.
 #[unsafe(no_mangle)]
 pub extern "C" fn urzabelki_line(row: &[u32], text: &mut [u8]) -> u64
-    ensures answer { result ≡ written_code (written (verdict row.now) (length text.old)) }
+    ensures answer { result ≡ value_code (written (verdict row.now) (length text.old)) }
     ensures memory { text.new ≡ written_in (written (verdict row.now) (length text.old)) (verdict row.now) text.old }
     ensures constants { LONGEST_LINE ≡ longest_line }
 {
@@ -45,7 +45,7 @@ pub extern "C" fn urzabelki_line(row: &[u32], text: &mut [u8]) -> u64
 // The printed line of the verdict on a stored table.
 #[unsafe(no_mangle)]
 pub extern "C" fn urzabelki_line_stored(bytes: &[u8], text: &mut [u8]) -> u64
-    ensures answer { result ≡ written_code (written (file_verdict bytes.now) (length text.old)) }
+    ensures answer { result ≡ value_code (written (file_verdict bytes.now) (length text.old)) }
     ensures memory { text.new ≡ written_in (written (file_verdict bytes.now) (length text.old)) (file_verdict bytes.now) text.old }
 {
     bench::urzabelki_line_stored(bytes, text)
@@ -54,7 +54,7 @@ pub extern "C" fn urzabelki_line_stored(bytes: &[u8], text: &mut [u8]) -> u64
 // Saves a row as a stored table.
 #[unsafe(no_mangle)]
 pub extern "C" fn urzabelki_save(row: &[u32], bytes: &mut [u8]) -> u64
-    ensures answer { result ≡ saved_code (saved row.now (length bytes.old)) }
+    ensures answer { result ≡ value_code (saved row.now (length bytes.old)) }
     ensures memory { bytes.new ≡ saved_in (saved row.now (length bytes.old)) row.now bytes.old }
 {
     bench::urzabelki_save(row, bytes)
@@ -63,7 +63,7 @@ pub extern "C" fn urzabelki_save(row: &[u32], bytes: &mut [u8]) -> u64
 // Loads a stored table to a row.
 #[unsafe(no_mangle)]
 pub extern "C" fn urzabelki_load(bytes: &[u8], row: &mut [u32]) -> u64
-    ensures answer { result ≡ loaded_code (loaded bytes.now (length row.old)) }
+    ensures answer { result ≡ value_code (loaded bytes.now (length row.old)) }
     ensures memory { row.new ≡ loaded_in (loaded bytes.now (length row.old)) bytes.now row.old }
 {
     bench::urzabelki_load(bytes, row)
@@ -72,7 +72,7 @@ pub extern "C" fn urzabelki_load(bytes: &[u8], row: &mut [u32]) -> u64
 // The import of a listing: the count of its trains, in lowest terms.
 #[unsafe(no_mangle)]
 pub extern "C" fn urzabelki_import(text: &[u8], row: &mut [u32]) -> u64
-    ensures answer { result ≡ imported_code (imported text.now (length row.old)) }
+    ensures answer { result ≡ value_code (imported text.now (length row.old)) }
     ensures memory { row.new ≡ imported_in (imported text.now (length row.old)) text.now row.old }
 {
     bench::urzabelki_import(text, row)
@@ -81,7 +81,7 @@ pub extern "C" fn urzabelki_import(text: &[u8], row: &mut [u32]) -> u64
 // The export of a row: the length of its listing.
 #[unsafe(no_mangle)]
 pub extern "C" fn urzabelki_export(row: &[u32], text: &mut [u8]) -> u64
-    ensures answer { result ≡ exported_code (exported row.now (length text.old)) }
+    ensures answer { result ≡ value_code (exported row.now (length text.old)) }
     ensures memory { text.new ≡ exported_in (exported row.now (length text.old)) row.now text.old }
 {
     bench::urzabelki_export(row, text)
@@ -103,7 +103,7 @@ pub extern "C" fn urzabelki_admit(
     period: u32,
     duration: u32,
 ) -> u64
-    ensures answer { result ≡ admission_code (admission_in words.old delay period duration).answer }
+    ensures answer { result ≡ value_code (admission_in words.old delay period duration).answer }
     ensures memory { words.new ≡ admitted_in (admission_in words.old delay period duration) words.old }
 {
     bench::urzabelki_admit(words, delay, period, duration)

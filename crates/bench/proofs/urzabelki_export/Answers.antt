@@ -1,13 +1,8 @@
--- `urzabelki_export` meets its contract: what `export` answers has room in the number.
-use Rattle.bench.proofs.Handing.{exported_fitting, hands_exported}
+-- `urzabelki_export` meets its contract: what `export` answers for the words of a row has room in the number.
+use mathlib.Core.Path.{sym, ap, subst, ◌∙◌}
+use Rattle.bench.specs.Answer.{Fits, value_parts}
+use Rattle.bench.proofs.Listings.{export_fits}
 use Rattle.bench.proofs.urzabelki_export.Goals as goal
 
-pub hand_exported-requires : goal.hand_exported-requires
-hand_exported-requires c =
-    let known = c.shared_slice_known-1.given in
-    exported_fitting _ _ _ c.export.ensures.answer (λ i. (known i).fits)
-
-pub returns : goal.returns
-returns c =
-    let both = hands_exported _ _ _ c.export.ensures.answer _ _ _ c.hand_exported.ensures c.export.ensures.bytes in
-    record { answer = both.0; memory = both.1 }
+pub code-requires : goal.code-requires
+code-requires c = subst Fits (sym (c.from.ensures ∙ ap value_parts c.export.ensures.answer)) (export_fits _ _ (λ i. (c.type_inv.row i).fits))

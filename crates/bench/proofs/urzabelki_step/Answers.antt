@@ -1,11 +1,10 @@
 -- `urzabelki_step` meets its contract: what `step` answers has room in the number, since the place of a run is a word.
-use Rattle.bench.proofs.Dispatching.{tick_fitting, hands_tick}
+use mathlib.Core.Path.{sym, ap, subst, ◌∙◌}
+use Rattle.bench.specs.Answer.{Fits, tick_parts}
+use Rattle.bench.proofs.Dispatching.{step_fits}
 use Rattle.bench.proofs.urzabelki_step.Goals as goal
 
-pub hand_tick-requires : goal.hand_tick-requires
-hand_tick-requires c =
+pub code-requires : goal.code-requires
+code-requires c =
     let word = c.wide-running in
-    tick_fitting _ _ _ c.step.ensures.answer _ word.ensures.0 word.ensures.1
-
-pub returns : goal.returns
-returns c = record { answer = hands_tick _ _ _ c.step.ensures.answer _ c.hand_tick.ensures; memory = c.step.ensures.memory }
+    subst Fits (sym (c.from.ensures ∙ ap tick_parts c.step.ensures.answer)) (step_fits _ _ _ word.ensures.0 word.ensures.1)
