@@ -162,9 +162,9 @@ module _ (l : List ℕ) (e : Entry) (room : length (record_text (lowest_entry e)
 
 module _ (row : List ℕ) (room : ℕ) where
   -- the longest text has room
-  pub room_longest : Words row → checked row ≡ Ok tt → longest_export ≤ room → true ≡ leb (length (text_of (map lowest_entry (entries row)))) room
+  pub room_longest : Words row → checked row ≡ Ok tt → longest_export ≤ room → leb longest_export room ≡ leb (length (text_of (map lowest_entry (entries row)))) room
   room_longest words passes h =
-      sym (le-leb (length (text_of (map lowest_entry (entries row)))) room (omega (arith, row_within row words passes)))
+      le-leb longest_export room h ∙ sym (le-leb (length (text_of (map lowest_entry (entries row)))) room (omega (arith, row_within row words passes)))
 
   -- the heading and the records are the text
   pub room_measured :

@@ -138,6 +138,7 @@ fn read_heading(text: &[u8]) -> Option<&[u8]>
 fn scan(records: &[u8]) -> Result<Scanned, Refusal>
     ensures { result ≡ tallied 0 (Ok tt) (listed_from records.now) }
 {
+    // By what is left: where a record ends is known only once it is read.
     let mut rest = records;
     let mut count = 0;
     let mut trains = Ok(());
