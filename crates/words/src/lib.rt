@@ -101,6 +101,7 @@ pub fn fresh(words: &mut [u32; LENGTH], count: u32)
 }
 
 // Admits a train, as `Dispatcher::admit` does.
+// The calls here stand beside those of the record: these write in place, and a form for both would be longer than the two.
 #[tactic(auto, using(crate::proofs::Standing::places_read), unfolding(dispatcher::specs::Answer::admission, dispatcher::specs::Answer::lowest))]
 pub fn admit(
     words: &mut [u32; LENGTH],
