@@ -2,8 +2,8 @@
 // No public function has a `requires`: without room nothing is written, and where no number of 32 bits stands the answer is `None`.
 #![tactic(auto)]
 
-ghost use Rattle.std.specs.Prelude.{◌≡◌, ◌+◌, ◌≤◌, ◌<◌, ◌^◌, length, drop, SomeIff};
-ghost use Rattle.lent.specs.Lent.{over, fitted, end_in};
+ghost use Rattle.std.specs.Prelude.{◌≡◌, ◌≤◌, ◌<◌, ◌^◌, length, drop, SomeIff};
+ghost use Rattle.lent.specs.Lent.{fitted, end_in};
 ghost use Rattle.decimal.specs.Answer.{decimal, digits_from, indexed, number_at};
 ghost use Rattle.decimal.specs.Answer.{longer as Answer·longer};
 

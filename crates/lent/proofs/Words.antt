@@ -12,7 +12,7 @@ use denote.Ref.{Bor}
 use Rattle.std.specs.Prelude.{Option, None, Some, MatchOption}
 use Rattle.std.specs.Option.{unwrap_or}
 use lib.Dec.{eqb}
-use lib.ListN.{length, take, drop, drop_of_length-le, length-append, length-drop}
+use lib.ListN.{length, take, drop, drop_of_length-le}
 use native.Mathlib.Nat.{le_refl}
 use Rattle.std.proofs.lemmas.Slice.{between_to_end}
 use borrow.Author.Tests.{eqb-true, eq-eqb}
@@ -36,13 +36,6 @@ pub begins_self : (word rest : List ℕ) → begins_with word (word ++ rest) ≡
 unfolding begins_with
 begins_self [] rest = refl
 begins_self (w ∷ ws) rest = rw (eq-eqb w w refl) (begins_self ws rest)
-
--- a word that stands at an index has room behind it
-pub begins_within : (word text : List ℕ) (at : ℕ) → begins_with word (drop at text) ≡ true → length word ≤ length text - at
-begins_within word text at e =
-    let rest : List ℕ = drop at text in
-    let long : length rest ≡ length (word ++ drop (length word) rest) = ap length (begins_is word rest e) in
-    omega (arith, long, length-append word (drop (length word) rest), length-drop at text)
 
 -- a test that tells the same tells whether a text begins with a word
 pub begins_told :

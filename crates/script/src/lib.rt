@@ -2,7 +2,7 @@
 // `read` has no `requires`: of a line that says no call it answers `None`.
 #![tactic(auto)]
 
-ghost use Rattle.std.specs.Prelude.{◌≡◌, ◌≤◌, length, drop, MatchOption};
+ghost use Rattle.std.specs.Prelude.{◌≡◌, MatchOption};
 ghost use Rattle.decimal.specs.Answer.{nothing, found};
 ghost use Rattle.script.specs.Says.{longest};
 ghost use Rattle.script.specs.Answer.{spaced_in, single_in, delay_of, spelt, call_in};
