@@ -1,5 +1,6 @@
 // The round trips: a row that is saved and loaded again, and a stored table that is loaded and saved again. They are written
 // over the contracts of `save` and `load` alone, no public call has a `requires`, and what follows the last entry keeps its value.
+// They are two functions and not one over two calls: what stands between the calls is of another type and another bound in each.
 #![tactic(auto)]
 
 ghost use Rattle.std.specs.Prelude.{◌≡◌, length};

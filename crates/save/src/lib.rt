@@ -71,6 +71,7 @@ pub fn save(row: &[u32], out: &mut [u8]) -> Result<usize, Refusal>
     if out.len() < end {
         return Err(Refusal::BufferTooShort);
     }
+    // A cast, for there is nothing to refuse: a row that passes has at most 64 trains.
     put_head(&mut out[..HEAD_LENGTH], count as u16);
     put_records(row, &mut out[HEAD_LENGTH..end]);
     Ok(end)
