@@ -16,6 +16,7 @@ fn write(rt: &HostRuntime, text: &[u8], bytes: &[u8])
     let _written = stream::write(&mut rt.stdout(), &mut rt.stderr(), bytes);
 }
 
+// `export` is as short, and what either writes has its own contract: one function for both would ask it of a closure.
 fn main(rt: HostRuntime) {
     let mut text = [0u8; MOST];
     let Ok(length) = stream::read_full(&mut rt.stdin(), &mut rt.stderr(), &mut text) else {

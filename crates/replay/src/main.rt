@@ -24,7 +24,7 @@ const ROOM: usize = 65_536;
 // Above this the answers are written, for the next one might find no room.
 const NEARLY_FULL: usize = ROOM - Played::LONGEST;
 
-// The line that is being read, as far as it is kept.
+// The line that is being read, as far as it is kept: in fixed memory, so its length stands beside the bytes.
 #[derive(Drop)]
 struct Line {
     bytes: [u8; KEPT],
@@ -42,7 +42,8 @@ impl Line {
     }
 }
 
-// A dispatcher as the calls have left it, the line that is being read, and the answers that are still to be written.
+// A dispatcher as the calls have left it, the line that is being read, and the answers that are still to be written, in
+// fixed memory too.
 #[derive(Drop)]
 struct Replay<'a> {
     rt: &'a HostRuntime,

@@ -98,6 +98,7 @@ pub fn read_full<R: Read, E: Write>(
     ensures end { EndedShort (R.remaining input.new) result buffer.new }
 {
     let mut done = 0;
+    // each turn goes on by what was read, which no iterator counts
     while done < buffer.len() {
         let count = read(input, errors, &mut buffer[done..])?;
         if count == 0 {
@@ -124,6 +125,7 @@ fn write_some<W: Write, E: Write>(
     ensures within { WritesAtMost result bytes.now }
     ensures written { IfOk result (λ taken. Appends (W.contents output.old) (W.contents output.new) (take taken bytes.now)) }
 {
+    // one loop for this and `read` would take the call as a closure, with a contract of each try: longer than the two
     for _try in 0..u64::MAX {
         match output.write(bytes) {
             // one that takes nothing is no better the next time
