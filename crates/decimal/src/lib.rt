@@ -1,5 +1,7 @@
 // Numbers as text, both ways: the decimal notation of a number is written to lent memory, and digits are read as a number.
 // No public function has a `requires`: without room nothing is written, and where no number of 32 bits stands the answer is `None`.
+// The digits are written by hand and not by `write!`: there is no heap, and which bytes `write!` puts into lent memory stands in
+// no contract.
 #![tactic(auto)]
 
 ghost use Rattle.std.specs.Prelude.{◌≡◌, ◌≤◌, ◌<◌, ◌^◌, length, drop, SomeIff};
@@ -19,6 +21,7 @@ pub struct Number {
 pub fn width(n: u64) -> usize
     ensures { (result ≡ length (decimal n)) × (result ≤ 20) }
 {
+    // `as`, since a usize has no `From` of 32 bits.
     n.max(1).ilog10() as usize + 1
 }
 
@@ -60,6 +63,7 @@ fn longer(value: u32, digit: u8) -> Option<u32>
 }
 
 // The number whose digits begin there, if it is one of 32 bits. No digit counts as 0, so the caller looks at the first.
+// A loop and no `position` with a `try_fold`, which would go over the digits twice.
 fn digits(text: &[u8], at: usize) -> Option<Number>
     requires { at ≤ length text.now }
     ensures { result ≡ indexed (length text.now) (digits_from 0 (drop at text.now)) }
@@ -81,6 +85,7 @@ fn digits(text: &[u8], at: usize) -> Option<Number>
 }
 
 // The number whose digits begin at an index of a text and go on as far as they go. Zeros may lead.
+// An index goes in and one comes out, and no slice: both are promised to callers.
 pub fn read(text: &[u8], at: usize) -> Option<Number>
     ensures { result ≡ number_at text.now at }
 {

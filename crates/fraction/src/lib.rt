@@ -26,6 +26,7 @@ fn product(a: u32, b: u32) -> u64
 fn part(n: u32, divisor: u64) -> u32
     ensures { result ≡ n / divisor }
 {
+    // `as`, since the quotient is no larger than n; a `try_from` could not fail.
     u64::from(n).checked_div(divisor).unwrap_or(0) as u32
 }
 
@@ -81,7 +82,8 @@ impl Fraction {
     }
 }
 
-// The multiple of some denominators and one more, as long as it is within the limit. What has passed the limit stays above it.
+// The multiple of some denominators and one more, as long as it is within the limit. Where it has passed the limit there is none,
+// and stays none.
 pub fn including(multiple: Option<u32>, denominator: u32) -> Option<u32>
     ensures answer { result ≡ included multiple denominator }
     ensures constant { LIMIT ≡ limit }
@@ -89,7 +91,7 @@ pub fn including(multiple: Option<u32>, denominator: u32) -> Option<u32>
     least(multiple?, denominator)
 }
 
-// The least common multiple of two numbers, against the limit.
+// The least common multiple of two numbers, or None where it is above the limit.
 #[tactic(auto, unfolding(euclid::specs::Answer::lcm))]
 fn least(a: u32, b: u32) -> Option<u32>
     ensures { result ≡ limited (lcm a b) }
