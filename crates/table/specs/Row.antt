@@ -6,6 +6,7 @@
 --     record_length          the bytes of a train in a stored table
 --     time_at row at         the fraction whose numerator stands at an index
 --     entry_at row at        the phase, period and duration of the train whose numbers begin at an index
+--     record_entry ns        the train of its six numbers
 --     entries_of n row       the first n trains of a row as fractions
 --     entries row            all its trains as fractions, in their order
 --     no_entry               what stands for an entry where there is none
@@ -60,6 +61,10 @@ time_at row at = record { numerator = get_or row at 0; denominator = get_or row 
 -- Phase, period and duration.
 abbrev pub entry_at : List ℕ → ℕ → Entry
 entry_at row at = record { phase = time_at row at; period = time_at row (at + 2); duration = time_at row (at + 4) }
+
+-- The train of six numbers.
+abbrev pub record_entry : List ℕ → Entry
+record_entry ns = entry_at ns 0
 
 -- The first trains of a row, so many of them.
 unfoldable pub entries_of : ℕ → List ℕ → List Entry

@@ -2,10 +2,10 @@
 // trains in whole ticks. No public call has a `requires`: every row of 32-bit numbers has its answer.
 #![tactic(auto)]
 
-ghost use Rattle.std.specs.Prelude.{◌+◌, ◌*◌, ◌≤◌, ◌≡◌, length, get_or, Some};
+ghost use Rattle.std.specs.Prelude.{◌+◌, ◌*◌, ◌≤◌, ◌≡◌, Some, [], ◌∷◌, map, length, get_or};
 ghost use Rattle.lent.specs.Lent.{fitted};
 ghost use Rattle.fraction.specs.Answer.{whole_ticks, running_from};
-ghost use Rattle.table.specs.Row.{capacity, numbers, longest_row, record_length, time_at, no_entry, entries, numbers_of, denominators_of};
+ghost use Rattle.table.specs.Row.{capacity, numbers, longest_row, record_length, time_at, no_entry, record_entry, entries, numbers_of, denominators_of};
 ghost use Rattle.table.specs.Answer.{no_denominator, no_time, entry_check, checked, reading};
 ghost use Rattle.table.specs.Inside.{timed, train_timed, Found, read_ticks};
 
@@ -21,7 +21,7 @@ pub struct Entry {
     pub duration: Fraction,
 }
 
-// What stands for a time where there is none: no number has this denominator.
+// What stands for a time where there is none: a fraction with the denominator 0, which is no number.
 const NO_TIME: Fraction = Fraction {
     numerator: 0,
     denominator: 0,
@@ -63,23 +63,12 @@ impl Table {
     pub const LONGEST_ROW: usize = Self::CAPACITY * Self::NUMBERS;
 }
 
-// How many trains stand in a row.
-#[tactic(auto, using(crate::proofs::Entries::entries_length))]
-fn train_count(row: &[u32]) -> usize
-    ensures { result ≡ length (entries row.now) }
+// The records of a row: the numbers of each of its trains, as many as are whole.
+#[tactic(auto, using(crate::proofs::Entries::records_read))]
+pub fn records(row: &[u32]) -> &[[u32; Table::NUMBERS]]
+    ensures { map record_entry result.now ≡ entries row.now }
 {
-    row.len() / Table::NUMBERS
-}
-
-// The fraction that stands at `at` in a row.
-fn time_at(row: &[u32], at: usize) -> Fraction
-    requires { at + 2 ≤ length row.now }
-    ensures { result ≡ time_at row.now at }
-{
-    Fraction {
-        numerator: row[at],
-        denominator: row[at + 1],
-    }
+    row.as_chunks().0
 }
 
 // A time in ticks, against the limit of a train. What is no whole number of ticks is in no table.
@@ -90,24 +79,51 @@ fn ticks_within(time: Fraction, tick: Fraction) -> Option<u32>
     (whole <= Train::MAX_TICKS).then_some(whole)
 }
 
+// The fraction of its two numbers, as they stand in a row.
+fn time(numerator: u32, denominator: u32) -> Fraction
+    ensures { result ≡ time_at (numerator ∷ denominator ∷ []) 0 }
+{
+    Fraction {
+        numerator,
+        denominator,
+    }
+}
+
+// The train of its six numbers, in their order.
+impl From<[u32; Table::NUMBERS]> for Entry {
+    ghost from_gives = { λ numbers entry. entry ≡ record_entry numbers };
+
+    fn from(numbers: [u32; Table::NUMBERS]) -> Entry {
+        let [
+            phase_above,
+            phase_below,
+            period_above,
+            period_below,
+            duration_above,
+            duration_below,
+        ] = numbers;
+        Entry {
+            phase: time(phase_above, phase_below),
+            period: time(period_above, period_below),
+            duration: time(duration_above, duration_below),
+        }
+    }
+}
+
 impl Entry {
-    // The entry at a position of a row; three times without a denominator where there is none, which 2 refuses.
-    #[tactic(auto, using(crate::proofs::Entries::entries_length, crate::proofs::Entries::entries_at))]
+    // The entry at a position of a row; three times without a denominator where there is none.
+    // It is no Option: the entry of a position without a train is promised to each caller, and 2 refuses it.
     pub fn at(row: &[u32], position: usize) -> Entry
         ensures { result ≡ get_or (entries row.now) position no_entry }
     {
-        if train_count(row) <= position {
-            return NO_ENTRY;
-        }
-        let at = position * Table::NUMBERS;
-        Entry {
-            phase: time_at(row, at),
-            period: time_at(row, at + 2),
-            duration: time_at(row, at + 4),
-        }
+        records(row)
+            .get(position)
+            .copied()
+            .map_or(NO_ENTRY, Entry::from)
     }
 
     // Writes the six numbers of this train to a row, from an index on, if there is room for all of them.
+    // Its own beside `lent::put`, which writes bytes: `fitted` and its laws are over lists of numbers, and not of any type.
     #[tactic(auto, unfolding(lent::specs::Lent::fitted, lent::specs::Lent::over))]
     pub fn put(self, row: &mut [u32], at: usize)
         ensures { row.new ≡ fitted row.old at (numbers_of self) }
@@ -191,8 +207,8 @@ pub fn check(row: &[u32]) -> Result<(), Refusal>
     if row.len() % Table::NUMBERS != 0 || row.len() > Table::LONGEST_ROW {
         return Err(Refusal::TrainCount);
     }
-    for position in 0..train_count(row) {
-        Entry::at(row, position).check(position)?;
+    for (position, numbers) in records(row).iter().enumerate() {
+        Entry::from(*numbers).check(position)?;
     }
     Ok(())
 }
@@ -202,10 +218,9 @@ pub fn check(row: &[u32]) -> Result<(), Refusal>
 fn common_multiple(row: &[u32]) -> Result<u32, Refusal>
     ensures { Found (entries row.now) result }
 {
-    let count = train_count(row);
-    let mut multiple: u32 = 1;
-    for position in 0..count {
-        multiple = Entry::at(row, position)
+    let mut multiple = 1;
+    for (position, numbers) in records(row).iter().enumerate() {
+        multiple = Entry::from(*numbers)
             .multiple(multiple)
             .ok_or(Refusal::TickTooFine(position))?;
     }
@@ -218,16 +233,17 @@ fn read_ticks(row: &[u32], tick: Fraction) -> Result<Table, Refusal>
     requires { length row.now ≤ longest_row }
     ensures { result ≡ read_ticks tick (entries row.now) }
 {
-    let count = train_count(row);
+    let records = records(row);
     let mut trains = [NO_TRAIN; Table::CAPACITY];
-    for position in 0..count {
-        trains[position] = Entry::at(row, position)
+    // The array by position: of the trains that `zip` lends, no proof knows what they are afterwards.
+    for (position, numbers) in records.iter().enumerate() {
+        trains[position] = Entry::from(*numbers)
             .in_ticks(tick)
             .ok_or(Refusal::TimeTooLong(position))?;
     }
     Ok(Table {
         tick,
-        count,
+        count: records.len(),
         trains,
     })
 }
