@@ -23,7 +23,7 @@ use Rattle.judge.specs.declared.Verdict.{Verdict}
 use Rattle.judge.specs.declared.Verdict.TheVariants as verdicts
 use Rattle.judge.specs.Paper.{Shown, accept, collide, refuse, paper}
 use Rattle.line.specs.Text.{Within}
-use Rattle.line.specs.Answer.{numbers, text_of, accept_word, collide_word, refuse_word, line, line_of, longest, answer_for, buffer_after, paper_written, written, written_in}
+use Rattle.line.specs.Answer.{numbers, text_of, accept_word, collide_word, refuse_word, refusal_text, line, line_of, longest, answer_for, buffer_after, paper_written, written, written_in}
 use Rattle.lent.specs.Lent.{over, fitted}
 use Rattle.lent.proofs.Over.{over_then, fitted_room}
 
@@ -164,12 +164,9 @@ unfolding line
 collide_line meeting figures multiple divisions p q =
     λ i. text_of collide_word (meeting.first ∷ meeting.second ∷ meeting.tick ∷ p i ∷ q i ∷ [])
 
-pub refuse_line :
-    (refusal : Refusal) (number place : ℕ) →
-    number ≡ (refusals.paper refusal).number → place ≡ (refusals.paper refusal).place →
-    text_of refuse_word (number ∷ place ∷ []) ≡ line_of (verdicts.Refused refusal)
+pub refuse_line : (refusal : Refusal) → refusal_text refusal ≡ line_of (verdicts.Refused refusal)
 unfolding line
-refuse_line refusal number place p q = λ i. text_of refuse_word (p i ∷ q i ∷ [])
+refuse_line refusal = refl
 
 -- what `put` wrote at the front for the verdict that was matched is what `write` promises
 pub put_line :

@@ -3,16 +3,13 @@
 -- Assumes nothing.
 use Prim.Native.Nat.{ℕ, ◌+◌, ◌-◌, ◌<◌, ◌≤◌}
 use mathlib.Core.Path.{◌≡◌, refl, sym, ap, ◌∙◌}
-use mathlib.Core.Bool.{false}
-use mathlib.Core.Logic.{⊎_elim}
+use mathlib.Core.Bool.{Bool, true, false}
 use mathlib.Core.List.{List, [], ◌∷◌, ◌++◌}
-use native.Mathlib.Nat.{eq-zero-or-pos}
 use native.Mathlib.Numerals.{add-one}
 use native.Mathlib.Omega.{arith}
-use lib.Dec.{leb}
 use lib.ListN.{length, drop, get_or, set, length-append, length-set}
 use lib.Seq.{drop-cons, drop-length}
-use borrow.Author.Tests.{le-leb, lt-leb}
+use Rattle.std.specs.Prelude.{Option, Some, None, SomeIff, is_some}
 use Rattle.lent.specs.Lent.{over, fitted, end_in}
 use Rattle.lent.proofs.Over.{over_one, over_then, fitted_room, end_room}
 use Rattle.decimal.specs.Answer.{decimal}
@@ -71,26 +68,42 @@ pub counting_begins : (ns : List ℕ) (room : ℕ) → Counting ns room room 0
 counting_begins ns room = record { so_far = omega arith; taken = refl }
 
 pub counting_on :
-    (ns : List ℕ) (room left i digits : ℕ) → i < length ns → digits ≡ length (decimal (get_or ns i 0)) → digits + 1 ≤ left →
-    Counting ns room left i → Counting ns room (left - (digits + 1)) (i + 1)
-counting_on ns room left i digits h e k c =
+    (ns : List ℕ) (room left i digits rest : ℕ) → i < length ns → digits ≡ length (decimal (get_or ns i 0)) → digits + 1 ≤ left →
+    rest ≡ left - (digits + 1) → Counting ns room left i → Counting ns room rest (i + 1)
+counting_on ns room left i digits rest h e k r c =
     record { so_far = omega arith; taken = omega (arith, c.taken, length_next ns i h) }
 
+-- where the next number has no room, the whole has none
 pub counting_short :
-    (ns : List ℕ) (room left i digits : ℕ) → i < length ns → digits ≡ length (decimal (get_or ns i 0)) → left < digits + 1 →
-    Counting ns room left i → false ≡ leb (length (numbers ns)) room
-counting_short ns room left i digits h e k c =
-    sym (lt-leb (length (numbers ns)) room (omega (arith, c.taken, length_next ns i h)))
+    (ns : List ℕ) (room left i digits : ℕ) → i < length ns → digits ≡ length (decimal (get_or ns i 0)) →
+    Counting ns room left i → (digits + 1 ≤ left → ⊥) → length (numbers ns) ≤ room → ⊥
+counting_short ns room left i digits h e c n k = n (omega (arith, c.taken, length_next ns i h))
 
--- the newline has room just where the whole has
+-- the newline has room just where the whole has, and leaves what the whole leaves
 pub counting_ends :
-    (ns : List ℕ) (room left i : ℕ) → length ns ≤ i → Counting ns room left i → leb 1 left ≡ leb (length (numbers ns)) room
-counting_ends ns room left i h c =
-    let last : length (numbers (drop i ns)) ≡ 1 = ap length (numbers_last ns i c.so_far h) in
-    ⊎_elim
-    (λ (z : left ≡ 0). lt-leb 1 left (omega arith) ∙ sym (lt-leb (length (numbers ns)) room (omega (arith, c.taken))))
-    (λ (p : 0 < left). le-leb 1 left (omega arith) ∙ sym (le-leb (length (numbers ns)) room (omega (arith, c.taken))))
-    (eq-zero-or-pos left)
+    (ns : List ℕ) (room left i : ℕ) (answer : Option ℕ) → length ns ≤ i → Counting ns room left i →
+    SomeIff answer (1 ≤ left) (left - 1) → SomeIff answer (length (numbers ns) ≤ room) (room - length (numbers ns))
+counting_ends ns room left i answer h c s = go answer s
+  where
+    both : left + length (numbers ns) ≡ 1 + room
+    both = omega (arith, c.taken, ap length (numbers_last ns i c.so_far h))
+
+    go : (o : Option ℕ) → SomeIff o (1 ≤ left) (left - 1) → SomeIff o (length (numbers ns) ≤ room) (room - length (numbers ns))
+    go None n = λ k. n (omega (arith, both))
+    go (Some x) y = (omega (arith, both, y.0), y.1 ∙ omega (arith, both, y.0))
+
+-- whether anything is left tells whether the whole has room
+abbrev count_of : Bool → ℕ
+count_of true = 1
+count_of false = 0
+
+pub none_left : (answer : Option ℕ) (P : Type 0) (v : ℕ) → SomeIff answer P v → is_some answer ≡ false → P → ⊥
+none_left None P v s e = s
+none_left (Some x) P v s e = absurd (omega (arith, ap count_of e))
+
+pub some_left : (answer : Option ℕ) (P : Type 0) (v : ℕ) → SomeIff answer P v → is_some answer ≡ true → P
+some_left None P v s e = absurd (omega (arith, ap count_of e))
+some_left (Some x) P v s e = s.0
 
 -- ---- The loop that writes them
 

@@ -5,6 +5,7 @@
 --     numbers ns                                the numbers of a line one after another, and then the newline
 --     text_of word ns                           the line of a word and its numbers
 --     accept_word, collide_word, refuse_word    the three words
+--     refusal_text r                            the line of a refusal
 --     line shown                                the printed line, as bytes
 --     line_of verdict                           the line of a verdict
 --     longest                                   the length of the longest line
@@ -18,6 +19,7 @@ use Rattle.lent.specs.Lent.{over}
 use Rattle.decimal.specs.Answer.{decimal}
 use Rattle.refusal.specs.declared.Refusal.{Refusal}
 use Rattle.refusal.specs.declared.Refusal.TheVariants.{BufferTooShort}
+use Rattle.refusal.specs.Paper as refusals
 use Rattle.refusal.specs.Paper.{Said, answers, refusing}
 use Rattle.judge.specs.declared.Verdict.{Verdict}
 use Rattle.judge.specs.Paper.{Shown, accept, collide, refuse, paper}
@@ -54,6 +56,10 @@ collide_word = 99 ∷ 111 ∷ 108 ∷ 108 ∷ 105 ∷ 100 ∷ 101 ∷ []
 -- The word `refuse`.
 abbrev pub refuse_word : List ℕ
 refuse_word = 114 ∷ 101 ∷ 102 ∷ 117 ∷ 115 ∷ 101 ∷ []
+
+-- The line of a refusal: the word, the paper's number and its place.
+abbrev pub refusal_text : Refusal → List ℕ
+refusal_text r = text_of refuse_word ((refusals.paper r).number ∷ (refusals.paper r).place ∷ [])
 
 -- The three lines: the word, and its numbers in their order.
 unfoldable pub line : Shown → List ℕ

@@ -1,6 +1,6 @@
 // The dispatcher in words of 32 bits that the caller lends, for programs in other languages. The words stand for a record of
 // the crate `dispatcher`, whatever they are; each call works in place, answers what the record's call answers, and leaves
-// the words of the record after it. No public call has a `requires`.
+// the words of the record after it. No public call has a `requires`. `as` stands where there is no `From`: between 32 bits and a usize.
 #![tactic(auto)]
 
 ghost use Rattle.std.specs.Prelude.{◌≡◌, ◌<◌, [], ◌∷◌};
@@ -21,7 +21,7 @@ const PLACE: usize = 4;
 const LAST: usize = PLACE * Dispatcher::PLACES;
 
 // The place of the run in progress.
-const RUNS: usize = LAST + 1;
+pub const RUNS: usize = LAST + 1;
 
 // How many of its ticks are still to come.
 const LEFT: usize = LAST + 2;
@@ -30,26 +30,26 @@ const LEFT: usize = LAST + 2;
 pub const LENGTH: usize = LAST + 3;
 
 // What a place holds.
-#[tactic(auto, unfolding(crate::specs::Record::place_in))]
 fn place_at(words: &[u32; LENGTH], place: usize) -> Place
     requires { place < place_count }
     ensures { result ≡ place_in words.now place }
 {
-    let at = place * PLACE;
-    if words[at] == 0 {
-        return Place { held: Held::Empty };
-    }
-    Place {
-        held: Held::Holds(Placed {
-            next: words[at + 1],
-            period: words[at + 2],
-            duration: words[at + 3],
+    let (places, _) = words.as_chunks::<PLACE>();
+    // A name of its own: tried: a match on `places[place]` itself, which the borrow checker does not cover.
+    let here = places[place];
+    let held = match here {
+        [0, ..] => Held::Empty,
+        [_, next, period, duration] => Held::Holds(Placed {
+            next,
+            period,
+            duration,
         }),
-    }
+    };
+    Place { held }
 }
 
-// The lowest place that is what is sought. It is inlined, so that what is sought is known in the loop of each call, and a step pays
-// for no other question.
+// The lowest place that is what is sought. It is inlined, so that what is sought is known in the search of each call, and a step
+// pays for no other question.
 #[inline(always)]
 fn lowest(words: &[u32; LENGTH], sought: Sought) -> Option<usize>
     ensures { result ≡ lowest_place (is_sought sought) (places_in words.now) }
@@ -77,6 +77,7 @@ fn words_of(here: Place) -> [u32; PLACE]
     }
 }
 
+// Writes a place over the words of another.
 fn put_place(words: &mut [u32; LENGTH], place: usize, here: Place)
     requires { place < place_count }
     ensures { words.new ≡ place_over words.old place here }
@@ -85,7 +86,7 @@ fn put_place(words: &mut [u32; LENGTH], place: usize, here: Place)
     words[at..at + PLACE].copy_from_slice(&words_of(here));
 }
 
-// The last count and the run in progress.
+// Writes the last count and the run in progress.
 fn put_tail(words: &mut [u32; LENGTH], last: u32, run: Run)
     ensures { words.new ≡ sets words.old last_at (last ∷ run.place ∷ run.left ∷ []) }
 {
@@ -101,7 +102,7 @@ pub fn fresh(words: &mut [u32; LENGTH], count: u32)
 }
 
 // Admits a train, as `Dispatcher::admit` does.
-// The calls here stand beside those of the record: these write in place, and a form for both would be longer than the two.
+// The calls here stand beside those of the record, for speed: they change the words in place, and no record is made of them and copied back.
 #[tactic(auto, using(crate::proofs::Standing::places_read), unfolding(dispatcher::specs::Answer::admission, dispatcher::specs::Answer::lowest))]
 pub fn admit(
     words: &mut [u32; LENGTH],
@@ -146,7 +147,7 @@ pub fn withdraw(words: &mut [u32; LENGTH], place: usize) -> Result<(), Refusal>
     ensures answer { result ≡ (withdrawal_in words.old place).answer }
     ensures memory { words.new ≡ withdrew_in place (withdrawal_in words.old place) words.old }
 {
-    if Dispatcher::PLACES <= place || place_at(words, place).is(Sought::Empty) {
+    if place >= Dispatcher::PLACES || place_at(words, place).is(Sought::Empty) {
         return Err(Refusal::NoTrainThere);
     }
     let run = run_at(words);
@@ -166,15 +167,8 @@ pub fn step(words: &mut [u32; LENGTH], count: u32) -> Result<Tick, Refusal>
         return Err(Refusal::WrongCount);
     }
     let run = run_at(words);
-    if 0 < run.left {
-        put_tail(
-            words,
-            count,
-            Run {
-                left: run.left - 1,
-                ..run
-            },
-        );
+    if let Some(left) = run.left.checked_sub(1) {
+        put_tail(words, count, Run { left, ..run });
         return Ok(Tick::GoesOn(run.place as usize));
     }
     let Some(due) = lowest(words, Sought::Due(count)) else {
