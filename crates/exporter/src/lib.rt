@@ -14,10 +14,10 @@ ghost use Rattle.listing.specs.Answer.{exported, exported_in};
 use fraction::Fraction;
 use listing::LONGEST_EXPORT;
 use refusal::Refusal;
-use table::{Entry, Table};
+use table::Entry;
 
-// The bytes of the heading, with its end.
-const HEADING_LENGTH: usize = 23;
+// The heading, with its end.
+const HEADING: [u8; 23] = *b"phase,period,duration\r\n";
 
 // How many bytes a time has in lowest terms.
 fn time_width(time: Fraction) -> usize
@@ -44,8 +44,8 @@ fn records_width(row: &[u32]) -> usize
     ensures { (result ≡ length (flat_map record_text (map lowest_entry (entries row.now)))) × (result ≤ 8_128) }
 {
     let mut width = 0;
-    for position in 0..row.len() / Table::NUMBERS {
-        width += record_width(Entry::at(row, position));
+    for numbers in table::records(row) {
+        width += record_width(Entry::from(*numbers));
     }
     width
 }
@@ -56,7 +56,7 @@ fn has_room(row: &[u32], room: usize) -> bool
     requires { checked row.now ≡ Ok tt }
     ensures { result ≡ leb (length (text_of (map lowest_entry (entries row.now)))) room }
 {
-    LONGEST_EXPORT <= room || HEADING_LENGTH + records_width(row) <= room
+    LONGEST_EXPORT <= room || HEADING.len() + records_width(row) <= room
 }
 
 // Writes a time in lowest terms to the front, n alone where it is n/1, and answers where it ends.
@@ -96,8 +96,8 @@ fn put_records(row: &[u32], text: &mut [u8]) -> usize
     ensures bytes { text.new ≡ over text.old 0 (flat_map record_text (map lowest_entry (entries row.now))) }
 {
     let mut end = 0;
-    for position in 0..row.len() / Table::NUMBERS {
-        end += put_record(Entry::at(row, position), &mut text[end..]);
+    for numbers in table::records(row) {
+        end += put_record(Entry::from(*numbers), &mut text[end..]);
     }
     end
 }
@@ -114,6 +114,6 @@ pub fn export(row: &[u32], text: &mut [u8]) -> Result<usize, Refusal>
     if !has_room(row, text.len()) {
         return Err(Refusal::BufferTooShort);
     }
-    text[..HEADING_LENGTH].copy_from_slice(b"phase,period,duration\r\n");
-    Ok(HEADING_LENGTH + put_records(row, &mut text[HEADING_LENGTH..]))
+    text[..HEADING.len()].copy_from_slice(&HEADING);
+    Ok(HEADING.len() + put_records(row, &mut text[HEADING.len()..]))
 }

@@ -1,7 +1,7 @@
 -- What the stores of the private functions write, on plain values.
 -- Core: save_writes, whole_part.
 -- Assumes nothing.
-use Prim.Native.Nat.{ℕ, ◌+◌, ◌-◌, ◌*◌, ◌/◌}
+use Prim.Native.Nat.{ℕ, ◌+◌, ◌-◌, ◌*◌}
 use mathlib.Core.Path.{◌≡◌, sym, ap, ◌∙◌}
 use mathlib.Core.List.{List, ◌++◌, append_assoc, append-nil, map, flat_map}
 use native.Mathlib.Omega.{arith}
@@ -12,23 +12,21 @@ use Rattle.std.specs.Prelude.{Ok}
 use Rattle.lent.specs.Lent.{over}
 use Rattle.lent.proofs.Over.{over_front}
 use Rattle.table.specs.declared.Entry.{Entry}
-use Rattle.table.specs.Row.{numbers, record_length, entries, lowest_entry}
-use Rattle.table.proofs.Entries.{entries_length}
+use Rattle.table.specs.Row.{record_length, entries, lowest_entry}
 use Rattle.stored.specs.Layout.{head_length, record_of, head_of, bytes_of}
 use Rattle.stored.specs.Answer.{saved_in}
 
 -- head and records are the whole layout, at the front of the buffer
 pub save_writes :
-    (row before head records : List ℕ) → head ≡ head_of (length row / numbers) →
+    (row before head records : List ℕ) (n : ℕ) → n ≡ length (entries row) → head ≡ head_of n →
     records ≡ flat_map record_of (map lowest_entry (entries row)) →
-    put_mid head_length (head_length + length row / numbers * record_length - head_length) (head ++ drop head_length before) records
-    ≡ saved_in (Ok (head_length + length row / numbers * record_length)) row before
+    put_mid head_length (head_length + n * record_length - head_length) (head ++ drop head_length before) records
+    ≡ saved_in (Ok (head_length + n * record_length)) row before
 unfolding saved_in bytes_of
-save_writes row before head records h r =
+save_writes row before head records n n-is h r =
     let es : List Entry = map lowest_entry (entries row) in
-    let n : ℕ = length row / numbers in
     let k : ℕ = head_length + n * record_length - head_length in
-    let count : length es ≡ n = length-map (entries row) lowest_entry ∙ entries_length row in
+    let count : length es ≡ n = length-map (entries row) lowest_entry ∙ sym n-is in
     let end : head_length + k ≡ head_length + n * record_length = omega arith in
     ap (λ (l : List ℕ). put_mid head_length k (l ++ drop head_length before) records) h
     ∙ ap (λ (l : List ℕ). head_of n ++ (l ++ drop k (drop head_length before))) r

@@ -39,9 +39,9 @@ fn put_head(out: &mut [u8], count: u16)
     requires { length out.old ≡ head_length }
     ensures { out.new ≡ head_of count }
 {
-    out[..3].copy_from_slice(&MARK);
-    out[3..5].copy_from_slice(&VERSION.to_be_bytes());
-    out[5..].copy_from_slice(&count.to_be_bytes());
+    out[..MARK.len()].copy_from_slice(&MARK);
+    out[MARK.len()..HEAD_LENGTH - 2].copy_from_slice(&VERSION.to_be_bytes());
+    out[HEAD_LENGTH - 2..].copy_from_slice(&count.to_be_bytes());
 }
 
 // Writes the trains of a row to their records, which stand one behind another.
@@ -49,11 +49,11 @@ fn put_records(row: &[u32], out: &mut [u8])
     requires { length out.old ≡ length (entries row.now) * record_length }
     ensures { out.new ≡ flat_map record_of (map lowest_entry (entries row.now)) }
 {
-    // By places: of the bytes that `chunks_exact_mut` lends, no proof knows what they are afterwards.
-    for position in 0..row.len() / Table::NUMBERS {
+    // The bytes by places: of those that `chunks_exact_mut` lends, no proof knows what they are afterwards.
+    for (position, numbers) in table::records(row).iter().enumerate() {
         let at = position * Table::RECORD_LENGTH;
         let record = &mut out[at..at + Table::RECORD_LENGTH];
-        put_record(record, Entry::at(row, position));
+        put_record(record, Entry::from(*numbers));
     }
 }
 
@@ -66,7 +66,7 @@ pub fn save(row: &[u32], out: &mut [u8]) -> Result<usize, Refusal>
     ensures constants { LONGEST ≡ longest }
 {
     table::check(row)?;
-    let count = row.len() / Table::NUMBERS;
+    let count = table::records(row).len();
     let end = HEAD_LENGTH + count * Table::RECORD_LENGTH;
     if out.len() < end {
         return Err(Refusal::BufferTooShort);

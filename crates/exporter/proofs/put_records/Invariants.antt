@@ -4,5 +4,5 @@ use Rattle.table.specs.Row.{entries, lowest_entry}
 use Rattle.exporter.proofs.Lines.{Putting}
 use Rattle.exporter.proofs.put_records.Given as goal
 
-abbrev pub invariant-loop-position : goal.invariant-loop-position
-invariant-loop-position l = Putting (map lowest_entry (entries l.row)) l.initial.text l.text l.end l.position
+abbrev pub invariant-loop-numbers : goal.invariant-loop-numbers
+invariant-loop-numbers l = Putting (map lowest_entry (entries l.row)) l.initial.text l.text l.end l.numbers-index

@@ -4,5 +4,5 @@ use Rattle.table.specs.Row.{entries, lowest_entry}
 use Rattle.exporter.proofs.Lines.{Measuring}
 use Rattle.exporter.proofs.records_width.Given as goal
 
-abbrev pub invariant-loop-position : goal.invariant-loop-position
-invariant-loop-position l = Measuring (map lowest_entry (entries l.row)) l.width l.position
+abbrev pub invariant-loop-numbers : goal.invariant-loop-numbers
+invariant-loop-numbers l = Measuring (map lowest_entry (entries l.row)) l.width l.numbers-index
