@@ -13,6 +13,7 @@ use borrow.Author.Tests.{eqb-true, lt-ltb, le-ltb, ne_eqb}
 use lib.Dec.{eqb}
 use Rattle.std.specs.Prelude.{Option, None, Some, IsSomeAnd, MatchOption}
 use Rattle.std.specs.Option.{option_map, unwrap_or}
+use Rattle.std.specs.Bool.{then_some}
 use Rattle.lent.specs.Words.{begins_with}
 use Rattle.lent.proofs.Words.{begins_is}
 use Rattle.decimal.specs.declared.Number.{Number}
@@ -51,15 +52,10 @@ pub spaced_is :
 unfolding spaced_in
 spaced_is text digits r e f = ap spaced_in e ∙ sym (found_again digits 0) ∙ ap (found_at digits) (sym f)
 
-pub single_last : (text : List ℕ) (n : ℕ) (rest : List ℕ) → spaced_in text ≡ found n rest → length rest ≡ 0 → Some n ≡ single_in text
+pub single_then : (text : List ℕ) (n : ℕ) (rest : List ℕ) → spaced_in text ≡ found n rest → then_some (eqb (length rest) 0) n ≡ single_in text
 unfolding single_of
-single_last text n [] e h = ap single_of (sym e)
-single_last text n (b ∷ bs) e h = absurd (omega arith)
-
-pub single_followed : (text : List ℕ) (n : ℕ) (rest : List ℕ) → spaced_in text ≡ found n rest → (length rest ≡ 0 → ⊥) → None ≡ single_in text
-unfolding single_of
-single_followed text n [] e h = absurd (h refl)
-single_followed text n (b ∷ bs) e h = ap single_of (sym e)
+single_then text n [] e = ap single_of (sym e)
+single_then text n (b ∷ bs) e = rw (ne_eqb (length (b ∷ bs)) 0 (λ h. omega arith)) (ap single_of (sym e))
 
 -- ---- A call by its word
 

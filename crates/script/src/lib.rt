@@ -12,6 +12,7 @@ ghost use Rattle.script.specs.Answer.{spaced_in, single_in, delay_of, spelt, cal
 pub enum Call {
     Fresh(u32),
     // The delay, the period and the duration.
+    // They are no `Train`: what a line says need not be one, and this crate knows of none.
     Admit(u32, u32, u32),
     Withdraw(u32),
     Step(u32),
@@ -36,7 +37,7 @@ fn single(text: &[u8]) -> Option<u32>
     ensures { result ≡ single_in text.now }
 {
     let (value, rest) = spaced(text)?;
-    if rest.is_empty() { Some(value) } else { None }
+    rest.is_empty().then_some(value)
 }
 
 // The call `admit` with the three numbers behind its word.
@@ -50,6 +51,7 @@ fn admit(text: &[u8]) -> Option<Call>
 }
 
 // The call that a text says by its first word.
+// One test after the other and no `match` on the word: where the word ends would have to be looked for first.
 fn call_in(text: &[u8]) -> Option<Call>
     ensures { result ≡ spelt text.now }
 {
