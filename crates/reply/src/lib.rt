@@ -1,5 +1,6 @@
 // From a line of a script to the line of its answer: the call that the line says is made on a dispatcher, and its answer is
-// written to a lent buffer. `play` has no `requires`: without room for the longest line nothing is called.
+// written to a lent buffer. `play` has no `requires`: without room for the longest line nothing is called. A buffer comes with an
+// index, as `play` is promised. `as` stands where there is no `From`: between a usize and 32 or 64 bits.
 #![tactic(auto)]
 
 ghost use Rattle.std.specs.Prelude.{◌≡◌, ◌+◌, ◌≤◌, length, IsOk, IfOk, MatchResult};
@@ -12,7 +13,7 @@ use dispatcher::{Called, Dispatcher, Tick};
 use refusal::Refusal;
 use script::Call;
 
-// What `play` answers.
+// What `play` answers. It is no `Called`: what was written is not the answer of the call.
 #[derive(Clone, Copy)]
 pub struct Played {
     // Where the printed line ends, or that the buffer is too short.
@@ -22,12 +23,12 @@ pub struct Played {
 }
 
 impl Played {
-    // The longest line of any answer. It is this room that `play` wants, so that whether it has it does not hang on the call,
-    // and the dispatcher before the call need not be kept.
+    // The longest line of any answer. `play` asks for this room before it makes the call, whatever the call, and so keeps no copy of
+    // the dispatcher to hand back.
     pub const LONGEST: usize = 39;
 }
 
-// What is printed for a call.
+// What is printed for a call. `Bad` and `Refuse` are no None and no Err: a line is printed for each, as for the others.
 #[derive(Clone, Copy)]
 enum Printed {
     // The line says no call.
@@ -39,16 +40,19 @@ enum Printed {
     Refuse(Refusal),
 }
 
-// What is printed for the answer of a call: the line of its value, or that of the refusal.
-fn print<A, F: FnOnce(A) -> Printed>(called: Called<Result<A, Refusal>>, line: F) -> Called<Printed>
-    requires { F.IsAlwaysCallable line }
+// What there is to print for the answer of a call: what its value makes, or the refusal.
+fn to_print<A, F: FnOnce(A) -> Printed>(
+    called: Called<Result<A, Refusal>>,
+    make: F,
+) -> Called<Printed>
+    requires { F.IsAlwaysCallable make }
     ensures answer { MatchResult called.answer
-        (λ value. F.post line value result.answer) (λ refusal. result.answer ≡ Printed.Refuse refusal) }
+        (λ value. F.post make value result.answer) (λ refusal. result.answer ≡ Printed.Refuse refusal) }
     ensures dispatcher { result.dispatcher ≡ called.dispatcher }
 {
     let Called { answer, dispatcher } = called;
     Called {
-        answer: answer.map_or_else(Printed::Refuse, line),
+        answer: answer.map_or_else(Printed::Refuse, make),
         dispatcher,
     }
 }
@@ -69,12 +73,12 @@ fn call(dispatcher: Dispatcher, said: Option<Call>) -> Called<Printed>
             dispatcher: Dispatcher::fresh(count),
         },
         Some(Call::Admit(delay, period, duration)) => {
-            print(dispatcher.admit(delay, period, duration), Printed::Place)
+            to_print(dispatcher.admit(delay, period, duration), Printed::Place)
         }
         Some(Call::Withdraw(place)) => {
-            print(dispatcher.withdraw(place as usize), |_| Printed::Withdrawn)
+            to_print(dispatcher.withdraw(place as usize), |_| Printed::Withdrawn)
         }
-        Some(Call::Step(count)) => print(dispatcher.step(count), Printed::Tick),
+        Some(Call::Step(count)) => to_print(dispatcher.step(count), Printed::Tick),
     }
 }
 
@@ -93,10 +97,7 @@ fn put(printed: Printed, out: &mut [u8], at: usize) -> Result<usize, Refusal>
         Printed::Tick(Tick::Idle) => line::put(b"idle", &[], out, at),
         Printed::Tick(Tick::Starts(place)) => line::put(b"starts", &[place as u64], out, at),
         Printed::Tick(Tick::GoesOn(place)) => line::put(b"goes-on", &[place as u64], out, at),
-        Printed::Refuse(refusal) => {
-            let values = [u64::from(refusal.number()), refusal.place() as u64];
-            line::put(b"refuse", &values, out, at)
-        }
+        Printed::Refuse(refusal) => line::refuse(refusal, out, at),
     }
 }
 
