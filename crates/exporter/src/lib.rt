@@ -3,13 +3,14 @@
 #![tactic(auto)]
 
 ghost use Rattle.std.specs.Prelude.{◌+◌, ◌≤◌, ◌≡◌, Ok, leb, length};
-ghost use mathlib.Core.List.{map, flat_map};
+ghost use mathlib.Core.List.{map};
 ghost use Rattle.lent.specs.Lent.{over};
 ghost use Rattle.fraction.specs.Answer.{lowest};
 ghost use Rattle.table.specs.Row.{longest_row, entries, lowest_entry};
 ghost use Rattle.table.specs.Answer.{checked};
 ghost use Rattle.listing.specs.Layout.{time_text, record_text, text_of, longest_export};
 ghost use Rattle.listing.specs.Answer.{exported, exported_in};
+ghost use Rattle.exporter.specs.Inside.{lines_of};
 
 use fraction::Fraction;
 use listing::LONGEST_EXPORT;
@@ -41,7 +42,7 @@ fn record_width(entry: Entry) -> usize
 // How many bytes the records of all trains of a row have in lowest terms.
 fn records_width(row: &[u32]) -> usize
     requires { length row.now ≤ longest_row }
-    ensures { (result ≡ length (flat_map record_text (map lowest_entry (entries row.now)))) × (result ≤ 8_128) }
+    ensures { (result ≡ length (lines_of row.now)) × (result ≤ 8_128) }
 {
     let mut width = 0;
     for numbers in table::records(row) {
@@ -91,9 +92,9 @@ fn put_record(entry: Entry, text: &mut [u8]) -> usize
 
 // Writes the records of all trains of a row to the front, and answers where they end.
 fn put_records(row: &[u32], text: &mut [u8]) -> usize
-    requires { length (flat_map record_text (map lowest_entry (entries row.now))) ≤ length text.old }
-    ensures end { result ≡ length (flat_map record_text (map lowest_entry (entries row.now))) }
-    ensures bytes { text.new ≡ over text.old 0 (flat_map record_text (map lowest_entry (entries row.now))) }
+    requires { length (lines_of row.now) ≤ length text.old }
+    ensures end { result ≡ length (lines_of row.now) }
+    ensures bytes { text.new ≡ over text.old 0 (lines_of row.now) }
 {
     let mut end = 0;
     for numbers in table::records(row) {

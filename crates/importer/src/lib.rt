@@ -1,6 +1,6 @@
 // Import: the text of a spreadsheet, RFC 4180, is read to a row, and no fraction is lost on the way. `import` has no `requires`; a
 // refusal writes nothing, and what follows the last number written keeps its value. Each `read_` function reads at the front of a
-// text, and answers what it read and the text behind it.
+// text, and answers the text behind what it read, and what that says where it says anything.
 #![tactic(auto)]
 
 ghost use Rattle.std.specs.Prelude.{◌≡◌, ℕ, List, Ok, map, length};
@@ -18,6 +18,7 @@ use refusal::Refusal;
 use table::{Entry, Table};
 
 // What the records behind the heading say where none of them is bad.
+// Both at once: a bad record behind is refused before a train in front.
 #[derive(Clone, Copy)]
 struct Scanned {
     // How many trains there are.
@@ -70,14 +71,15 @@ fn read_time(text: &[u8]) -> Option<(Fraction, &[u8])>
     ))
 }
 
-// Reads a phase: a time; where there is none it may still be blank, which is 0.
+// Reads a phase: a time; where there is none it may still be blank, which is 0. What is no phase at all is left to what follows, so
+// that this answers always; it is an Option as `read_field` asks for.
 fn read_phase(text: &[u8]) -> Option<(Fraction, &[u8])>
     ensures { told result ≡ phase_in text.now }
 {
     read_time(text).or(Some((BLANK, text)))
 }
 
-// Reads a word, which has no value.
+// Reads a word, which has no value. No closure at its one caller, since the clause would stand in the middle of a call there.
 fn read_word<'a>(text: &'a [u8], word: &[u8]) -> Option<((), &'a [u8])>
     ensures { told result ≡ word_in word.now text.now }
 {
@@ -166,7 +168,7 @@ fn check_trains(scanned: Scanned, room: usize) -> Result<(), Refusal>
     Ok(())
 }
 
-// A train with its times in lowest terms.
+// A train with its times in lowest terms. It stands here, for save and export reduce a time at a time, as they write it.
 fn lowest(entry: Entry) -> Entry
     ensures { result ≡ lowest_entry entry }
 {
@@ -183,6 +185,7 @@ fn put_entries(records: &[u8], count: usize, row: &mut [u32])
     ensures { row.new ≡ over row.old 0 (row_of (map lowest_entry (trains_of (listed_from records.now)))) }
 {
     let mut rest = records;
+    // By the count, which `scan` has found: a `while let` over what is left would count the places of the row by hand.
     for position in 0..count {
         let Some((entry, behind)) = read_entry(rest) else {
             unreachable!();

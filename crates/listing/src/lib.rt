@@ -11,7 +11,7 @@ pub const LONGEST_TEXT: usize = 32_768;
 // The bytes of the longest text that is written: a buffer of this length is never too short.
 pub const LONGEST_EXPORT: usize = 4_311;
 
-// The constants are those of specs/Layout.antt.
+// The constants are those of specs/Layout.antt. Nothing calls this: what is so of a constant is said by a function's contract.
 fn constants()
     ensures text { LONGEST_TEXT ≡ longest_text }
     ensures export { LONGEST_EXPORT ≡ longest_export }
