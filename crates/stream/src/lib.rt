@@ -8,34 +8,33 @@ ghost use Rattle.std.specs.Prelude.{◌≤◌, ◌<◌, length, take, IfOk, OnOk
 ghost use Rattle.std.specs.Io.{ReadsAtMost, WritesAtMost};
 ghost use Rattle.std.specs.Io.KnownBytes.{Appends};
 ghost use Rattle.stream.specs.Reading.{Taken, EndedAtNone, EndedShort};
+ghost use Rattle.stream.specs.Trying.{Tried};
 
-use std::io::{Cursor, Error, ErrorKind, Read, Write};
-use std::{fmt, thread};
+use std::io::{self, Cursor, Error, ErrorKind, Read, Write};
+use std::thread;
 
 // Standard input could not be read, or standard output not be written, which has been said.
 #[derive(Clone, Copy, Debug, PartialEq, Eq)]
 pub struct Fault;
 
-impl fmt::Display for Fault {
-    fn fmt<W: fmt::Write>(&self, f: &mut fmt::Formatter<W>) -> fmt::Result {
-        write!(f, "a fault, which has been said")
-    }
-}
+// What is said to have failed.
+const UNREAD: &[u8] = b"standard input cannot be read";
 
-impl std::error::Error for Fault {}
+const UNWRITTEN: &[u8] = b"standard output cannot be written";
 
-// The longest words of an error.
+// The bytes of the longest words of an error.
 const WORDS: usize = 320;
 
 // Whether a call that has just failed is to be made again. There is no call that waits until the other side is ready, so
 // the processor is offered to it.
 fn again(error: &Error) -> bool {
-    let kind = error.kind();
-    if kind == ErrorKind::WouldBlock {
-        thread::yield_now();
-        return true;
+    match error.kind() {
+        ErrorKind::WouldBlock => {
+            thread::yield_now();
+            true
+        }
+        kind => kind == ErrorKind::Interrupted,
     }
-    kind == ErrorKind::Interrupted
 }
 
 // The reason among the words of an error: behind that of a call of the system stands the number of the error, in brackets.
@@ -49,7 +48,7 @@ fn reason<'a>(error: &Error, words: &'a [u8]) -> &'a [u8] {
     }
 }
 
-// Says in a line what could not be done, and why.
+// Says in a line what could not be done, and why, and hands back the fault that has been said.
 fn say<E: Write>(errors: &mut E, what: &[u8], error: Error) -> Fault {
     let mut words = Cursor::new([0u8; WORDS]);
     let _written = write!(words, "{error}");
@@ -61,13 +60,23 @@ fn say<E: Write>(errors: &mut E, what: &[u8], error: Error) -> Fault {
     Fault
 }
 
-// Says that the call of `read` that has just failed did, and why.
-fn unread<E: Write>(errors: &mut E, error: Error) -> Fault {
-    say(errors, b"standard input cannot be read", error)
+// Makes a call, and makes it again as long as `again` says so. A loop has to end, so the tries are counted, up to more than any run takes.
+// The call is lent, so that what it has done to its side is known behind it.
+fn tried<T, F: FnMut() -> io::Result<T>>(call: &mut F) -> io::Result<T>
+    requires { (state : F) → F.pre state }
+    ensures { IfOk result (λ value. Tried (λ p r q. F.step p r q) call.old value call.new) }
+{
+    for _try in 0..u64::MAX {
+        match call() {
+            Err(error) if again(&error) => {}
+            answer => return answer,
+        }
+    }
+    Err(Error::from(ErrorKind::TimedOut))
 }
 
 // Reads what there is, and waits where there is nothing yet. No byte is read where the input has ended, and none into an
-// empty buffer. A loop has to end, so the turns are counted, up to more than any run takes.
+// empty buffer.
 pub fn read<R: Read, E: Write>(
     input: &mut R,
     errors: &mut E,
@@ -77,14 +86,11 @@ pub fn read<R: Read, E: Write>(
     ensures taken { Taken (R.remaining input.old) (R.remaining input.new) result buffer.new }
     ensures end { EndedAtNone (R.remaining input.new) result buffer.new }
 {
-    for _turn in 0..u64::MAX {
-        match input.read(buffer) {
-            Ok(count) => return Ok(count),
-            Err(error) if again(&error) => {}
-            Err(error) => return Err(unread(errors, error)),
-        }
+    // tried: `map_err`, behind which the proof has no arm for what was read
+    match tried(&mut || input.read(buffer)) {
+        Ok(count) => Ok(count),
+        Err(error) => Err(say(errors, UNREAD, error)),
     }
-    Err(unread(errors, Error::from(ErrorKind::TimedOut)))
 }
 
 // Reads until the buffer is full or the input ends.
@@ -102,20 +108,14 @@ pub fn read_full<R: Read, E: Write>(
     while done < buffer.len() {
         let count = read(input, errors, &mut buffer[done..])?;
         if count == 0 {
-            return Ok(done);
+            break;
         }
         done += count;
     }
     Ok(done)
 }
 
-// Says that the call of `write` that has just failed did, and why.
-fn unwritten<E: Write>(errors: &mut E, error: Error) -> Fault {
-    say(errors, b"standard output cannot be written", error)
-}
-
-// Writes the first of the bytes, as many as are taken at once and at least one, and answers how many. The tries are counted
-// as the turns of `read`.
+// Writes the first of the bytes, as many as are taken at once and at least one, and answers how many.
 fn write_some<W: Write, E: Write>(
     output: &mut W,
     errors: &mut E,
@@ -125,17 +125,12 @@ fn write_some<W: Write, E: Write>(
     ensures within { WritesAtMost result bytes.now }
     ensures written { IfOk result (λ taken. Appends (W.contents output.old) (W.contents output.new) (take taken bytes.now)) }
 {
-    // one loop for this and `read` would take the call as a closure, with a contract of each try: longer than the two
-    for _try in 0..u64::MAX {
-        match output.write(bytes) {
-            // one that takes nothing is no better the next time
-            Ok(0) => return Err(unwritten(errors, Error::from(ErrorKind::WriteZero))),
-            Ok(count) => return Ok(count),
-            Err(error) if again(&error) => {}
-            Err(error) => return Err(unwritten(errors, error)),
-        }
+    match tried(&mut || output.write(bytes)) {
+        // one that takes nothing is no better the next time
+        Ok(0) => Err(say(errors, UNWRITTEN, Error::from(ErrorKind::WriteZero))),
+        Ok(count) => Ok(count),
+        Err(error) => Err(say(errors, UNWRITTEN, error)),
     }
-    Err(unwritten(errors, Error::from(ErrorKind::TimedOut)))
 }
 
 // Writes all of the bytes. No bytes are written without a call.
