@@ -26,6 +26,7 @@ pub struct Meeting {
     pub tick: u64,
 }
 
+// Refused is a verdict of its own and no Err: the paper's verdict is one of three, printed and numbered so.
 #[derive(Clone, Copy)]
 pub enum Verdict {
     // No tick is ever claimed by two trains.
@@ -36,7 +37,8 @@ pub enum Verdict {
     Refused(Refusal),
 }
 
-// The first pair that collides, with the divisions of the pairs up to and including it.
+// The first pair that collides, with the divisions of the pairs up to and including it. It is an Err of the search, so that `?` leaves both
+// loops with it.
 #[derive(Clone, Copy)]
 struct Collision {
     first: usize,
@@ -75,6 +77,7 @@ fn scan(trains: &[Train]) -> Result<u32, Collision>
     ensures { result ≡ scan (train_at trains.now) (pairs (length trains.now)) 0 }
 {
     let mut divisions = 0;
+    // By position too: a pair is two positions.
     for first in 0..trains.len() {
         divisions = scan_behind(trains, first, divisions)?;
     }
@@ -93,15 +96,15 @@ fn judge_trains(trains: &[Train], multiple: u32) -> Verdict
             multiple,
             divisions,
         }),
-        Err(pair) => {
+        Err(collision) => {
             let meeting = Meeting {
-                first: pair.first,
-                second: pair.second,
-                tick: train::earliest(trains[pair.first], trains[pair.second]).unwrap(),
+                first: collision.first,
+                second: collision.second,
+                tick: train::earliest(trains[collision.first], trains[collision.second]).unwrap(),
             };
             let figures = Figures {
                 multiple,
-                divisions: pair.divisions,
+                divisions: collision.divisions,
             };
             Verdict::Collide(meeting, figures)
         }
