@@ -10,6 +10,7 @@ use table::Table;
 
 // Imports a listing, saves its trains to the front of `bytes`, and answers how many bytes stand there; what follows them is kept. The
 // row is as long as the longest table, so it is never too short. Refusals: 7; 18; 1; then train by train 3 and 4; then 8 for `bytes`.
+// Each of the two names its two calls, as its contract does: one function over both calls as closures would be longer than these.
 #[tactic(auto, using(crate::proofs::Storing::store_within), unfolding(crate::specs::Answer::store_leaves))]
 pub fn store(text: &[u8], bytes: &mut [u8]) -> Result<usize, Refusal>
     ensures answer { result ≡ store_answer text.now (length bytes.old) }

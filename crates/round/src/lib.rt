@@ -1,6 +1,5 @@
 // The round trips: a row that is saved and loaded again, and a stored table that is loaded and saved again. They are written
 // over the contracts of `save` and `load` alone, no public call has a `requires`, and what follows the last entry keeps its value.
-// They are two functions and not one over two calls: what stands between the calls is of another type and another bound in each.
 #![tactic(auto)]
 
 ghost use Rattle.std.specs.Prelude.{◌≡◌, length};
@@ -13,6 +12,7 @@ use table::Table;
 // Saves a row, loads what was written into `back`, and answers how many trains stand there: those of the row in lowest
 // terms. The buffer is as long as the longest stored table, so it is never too short. Refusals: 1; then train by train 2, 3
 // and 4; then 8 for `back`.
+// Each of the two names its two calls, as its contract does: one function over both calls as closures would be longer than these.
 #[tactic(auto, unfolding(crate::specs::Answer::kept_in))]
 pub fn save_and_load(row: &[u32], back: &mut [u32]) -> Result<usize, Refusal>
     ensures answer { result ≡ kept row.now (length back.old) }

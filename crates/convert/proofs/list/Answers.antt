@@ -14,12 +14,10 @@ returns-in_err-count-clause-answer c =
 pub slice_bounds-export-end : goal.slice_bounds-export-end
 slice_bounds-export-end c = sym (length-take-le _ _ (omega (arith, list_within _ _ c.in_ok-count.ensures.answer)))
 
-pub returns-clause-answer : goal.returns-clause-answer
-returns-clause-answer c =
+pub returns : goal.returns
+returns c =
     let read = c.in_ok-count.ensures in
-    list_exports _ _ read.answer (λ i. (c.type_inv.bytes i).fits) _ _ read.entries _ _ c.export.ensures.answer
-
-pub returns-clause-memory : goal.returns-clause-memory
-returns-clause-memory c =
-    let read = c.in_ok-count.ensures in
-    list_puts _ _ read.answer (λ i. (c.type_inv.bytes i).fits) _ _ read.entries _ _ _ c.export.ensures.bytes
+    record {
+      answer = list_exports _ _ read.answer (λ i. (c.type_inv.bytes i).fits) _ _ read.entries _ _ c.export.ensures.answer;
+      memory = list_puts _ _ read.answer (λ i. (c.type_inv.bytes i).fits) _ _ read.entries _ _ _ c.export.ensures.bytes;
+    }
