@@ -5,7 +5,8 @@
 
 ghost use Rattle.convert.specs.Standing.{ListedOf};
 
-// One byte more than the longest stored table has, so that a longer input is seen to be too long.
+// One byte more than the longest stored table has, so that a longer input is seen to be too long. `verdict` reads as much: a home for the two
+// would be one more public constant for a sum.
 const MOST: usize = stored::LONGEST + 1;
 
 // Writes the listing of the stored table. The stored table is named only to say so.

@@ -1,6 +1,7 @@
-// Prints the line of a verdict on standard output, or that of a refusal on standard error, by `stream`; the programs call it,
-// and hand over the two. What the line is was decided in `line`. Of those of the system no contract can say what is printed, but
-// what is handed on to be printed is tied to the verdict: `complain` asks for it.
+// Prints the line of a verdict on standard output, or that of a refusal on standard error, by `stream`; the programs call it, and hand over
+// the outputs. What the line is was decided in `line`. `show` promises it of an output whose bytes a contract can name, as one over
+// memory. Of those of the system it cannot, but what is handed on to be printed is the line there too: `line_in` promises it, and
+// `complain` asks for it.
 #![tactic(auto)]
 
 ghost use Rattle.std.specs.Prelude.{◌≡◌, ◌≤◌, length, OnOk};
@@ -19,11 +20,9 @@ fn line_in(verdict: Verdict, text: &mut [u8]) -> &[u8]
     requires { longest ≤ length text.old }
     ensures { Stands verdict result.now }
 {
-    match line::write(verdict, text) {
-        Ok(length) => &text[..length],
-        // the buffer is too short for no line
-        Err(_) => unreachable!(),
-    }
+    // no line is longer than the buffer
+    let length = line::write(verdict, text).unwrap();
+    &text[..length]
 }
 
 // Prints the line of a verdict that refuses on standard error. The verdict is named only to say so.
