@@ -24,7 +24,8 @@ const ROOM: usize = 65_536;
 // Above this the answers are written, for the next one might find no room.
 const NEARLY_FULL: usize = ROOM - Played::LONGEST;
 
-// The line that is being read, as far as it is kept: in fixed memory, so its length stands beside the bytes.
+// The line that is being read, as far as it is kept: in fixed memory, so its length stands beside the bytes. The answers below are bytes
+// with a length too, but not a second `Line`: none of them is left out, and they are written where the next might find no room.
 #[derive(Drop)]
 struct Line {
     bytes: [u8; KEPT],
@@ -57,14 +58,13 @@ struct Replay<'a> {
 impl Replay<'_> {
     // Makes the call of the line that is kept, and puts its answer behind those that wait. There is always room for one.
     fn play(&mut self) -> Result<(), Fault> {
+        // tried: without this name, what is written below while `said` is lent is not covered by the borrow checker
         let line = &self.line;
         let said = &line.bytes[..line.length];
         let played = reply::play(self.dispatcher, said, &mut self.answers, self.waiting);
         self.dispatcher = played.dispatcher;
         self.line.length = 0;
-        let Ok(end) = played.written else {
-            unreachable!();
-        };
+        let end = played.written.unwrap();
         if end > NEARLY_FULL {
             return self.flush(end);
         }
@@ -112,6 +112,7 @@ impl Replay<'_> {
     // ended is not answered, for nothing is known of the rest of it.
     fn play_input(&mut self) -> Result<(), Fault> {
         let mut block = [0u8; BLOCK];
+        // A range, and no loop without an end: each loop is proved to end.
         for _turn in 0..u64::MAX {
             let count = stream::read(&mut self.rt.stdin(), &mut self.rt.stderr(), &mut block)?;
             if count == 0 {
