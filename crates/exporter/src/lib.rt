@@ -44,6 +44,7 @@ fn records_width(row: &[u32]) -> usize
     requires { length row.now ≤ longest_row }
     ensures { (result ≡ length (lines_of row.now)) × (result ≤ 8_128) }
 {
+    // tried: `.map(..).sum()`; that the sum fits is asked of every run of the iterator, which does not close.
     let mut width = 0;
     for numbers in table::records(row) {
         width += record_width(Entry::from(*numbers));

@@ -11,7 +11,7 @@ use lib.Dec.{eqb, eqb-zero-suc}
 use lib.ListN.{length, get_or, take, drop}
 use borrow.Author.Tests.{eq-eqb, ne_eqb}
 use Rattle.std.specs.Prelude.{Option, Some, None, MatchOption}
-use Rattle.std.specs.Option.{option_or}
+use Rattle.std.specs.Option.{IsSome, option_or}
 use Rattle.std.specs.Cmp.Lexicographic.{pointwise}
 use Rattle.std.proofs.lemmas.List.{take_rest}
 use Rattle.lent.specs.Words.{begins_with}
@@ -76,6 +76,14 @@ module _ {A : Type 0} (b : ℕ) (a : A) (l : List ℕ) where
 module _ {A : Type 0} (r : Option (A × Bor (List ℕ))) (f : Found A) (e : told r ≡ f) where
   pub told_none : r ≡ None → nothing ≡ f
   told_none is = ap told (sym is) ∙ e
+
+  -- what does not read nothing has read something
+  pub told_there : (nothing ≡ f → ⊥) → IsSome r
+  told_there never = there r (λ is. never (told_none is))
+    where
+      there : (o : Option (A × Bor (List ℕ))) → (o ≡ None → ⊥) → IsSome o
+      there None h = absurd (h refl)
+      there (Some v) h = refl
 
   pub told_some : (a : A) (rest : Bor (List ℕ)) → r ≡ Some (a, rest) → found a rest.now ≡ f
   told_some a rest is = ap told (sym is) ∙ e

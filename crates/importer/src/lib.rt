@@ -187,9 +187,7 @@ fn put_entries(records: &[u8], count: usize, row: &mut [u32])
     let mut rest = records;
     // By the count, which `scan` has found: a `while let` over what is left would count the places of the row by hand.
     for position in 0..count {
-        let Some((entry, behind)) = read_entry(rest) else {
-            unreachable!();
-        };
+        let (entry, behind) = read_entry(rest).unwrap();
         lowest(entry).put(row, position * Table::NUMBERS);
         rest = behind;
     }
