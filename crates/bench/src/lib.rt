@@ -1,6 +1,7 @@
 // What other languages get: the calls of the other crates over numbers and slices. Each is proved equal to the call that it wraps;
 // `bench_c` hands them to C, and include/urzabelki.h is their header. No public function has a `requires`. `as` stands where there is
-// no `From`: from a usize to 64 bits, and from 32 bits to a usize.
+// no `From`: from a usize to 64 bits, from 32 bits to a usize, and from a kind or a figure to its number. The calls of a stored table
+// differ from those of a row in what is judged alone: C has a name for each.
 #![tactic(auto)]
 
 ghost use Rattle.std.specs.Prelude.{◌^◌, ◌<◌, ◌≡◌, [], ◌∷◌, length};
@@ -60,9 +61,6 @@ enum Kind {
 // The number of a refusal, where there is none. The header has it too.
 const NOT_REFUSED: u32 = 0;
 
-// Where the words of a dispatcher have the place of the run in progress.
-const RUNS: usize = words::LENGTH - 2;
-
 // What one kind counts in the number that is handed back.
 const KIND_UNIT: u64 = 1 << 32;
 
@@ -119,7 +117,8 @@ impl From<Refusal> for Answer {
 }
 
 // The length of a line, of a stored table or of a listing, the count of the trains that were loaded or imported, or the place of
-// a train that was admitted.
+// a train that was admitted. This and the two below are no one `impl` over any value: of that it would be known by cases alone what it
+// gives, and not by the equation that each call promises.
 impl From<Result<usize, Refusal>> for Answer {
     ghost from_gives = { λ value a. a ≡ value_parts value };
 
@@ -169,7 +168,7 @@ fn put_meeting(figures: &mut [u64; FIGURES], meeting: Meeting)
     figures[Figure::Tick as usize] = meeting.tick;
 }
 
-// Writes the figures of a verdict, and hands back its answer.
+// Writes the figures of a verdict, and hands back its answer. It is no `From`, for it writes too.
 fn hand_verdict(verdict: Verdict, figures: &mut [u64; FIGURES]) -> Answer
     ensures answer { result ≡ verdict_parts verdict }
     ensures memory { figures.new ≡ figures_in verdict figures.old }
@@ -304,6 +303,6 @@ pub fn urzabelki_step(words: &mut [u32; words::LENGTH], count: u32) -> u64
     ensures memory { words.new ≡ stepped_in (stepping_in words.old count) words.old }
 {
     // The place that a run goes on at has room in the number, since it is a word; this is read for the proof alone.
-    let _running = wide(words[RUNS]);
+    let _running = wide(words[words::RUNS]);
     Answer::from(words::step(words, count)).code()
 }

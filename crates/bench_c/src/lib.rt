@@ -1,4 +1,5 @@
 // What C links: each call of `bench` as a C function of the same name, with the same clauses; include/urzabelki.h is their header.
+// Each call stands twice because a crate is a library or what C links, and not both: the proofs about the calls stand on the library.
 // Nothing is decided here. No exported function has a `requires`.
 #![tactic(auto)]
 
