@@ -52,7 +52,9 @@ fn put_numbers(values: &[u64], out: &mut [u8], at: usize) -> usize
 }
 
 // Writes the line of a word and its numbers at `at`, and answers where it ends; what stands before and behind is kept.
-// A buffer without room for all of it there is refused, and keeps every byte.
+// A buffer without room for all of it there is refused, and keeps every byte. It is inlined, so that the loops know how many numbers
+// there are, and the copy how long the word is.
+#[inline(always)]
 pub fn put(word: &[u8], values: &[u64], out: &mut [u8], at: usize) -> Result<usize, Refusal>
     ensures answer { result ≡ answer_for (text_of word.now values.now) at (length out.old) }
     ensures bytes { out.new ≡ buffer_after result (text_of word.now values.now) at out.old }
