@@ -1,14 +1,12 @@
 -- Which record words stand for, after a write: the places and what stands behind them.
 -- Core: place_there, place_read, place_kept. The rest follows from these.
 -- Assumes nothing.
-use Rattle.std.proofs.Common.{◌≡◌, ℕ, zero, suc, ◌+◌, ◌*◌, ◌<◌, ◌≤◌, Bool, true, false, cond, eqb, ltb, List, [], length, get_or, drop, set, replicate, sym, refl, ap, ◌∙◌, subst, arith, length-set, get_or-set_other, get_or-set_same, ext_get_or, ltb-false, ltb-true, eqb-true, lt-ltb}
+use Rattle.std.proofs.Common.{◌≡◌, ℕ, zero, suc, ◌+◌, ◌*◌, ◌<◌, ◌≤◌, Bool, true, false, cond, eqb, ltb, List, length, get_or, set, replicate, sym, refl, ap, ◌∙◌, subst, arith, length-set, get_or-set_other, get_or-set_same, ext_get_or, ltb-false, ltb-true, eqb-true, lt-ltb}
 use mathlib.Core.List.{flat_map}
 use lib.Seq.{length-sets}
 use Rattle.std.specs.List.{position_or_len}
 use Rattle.std.specs.Prelude.{MatchOption}
-use Rattle.std.proofs.lemmas.List.{get_or-drop, get_or-take}
 use Rattle.std.proofs.lemmas.List.Sums.{position_or_len_is}
-use Rattle.std.specs.Simd.{first_chunks}
 use borrow.Author.Tests.{eqb-false}
 use Rattle.lent.specs.Lent.{over}
 use Rattle.lent.proofs.Over.{over_sets, over_before, over_there, over_behind}
@@ -94,7 +92,7 @@ lowest_at test ws found h = by found h
 -- ---- A place by its four words
 
 -- what a place is, by its words
-abbrev pub place_of : (flag next period duration : ℕ) → Place
+abbrev place_of : (flag next period duration : ℕ) → Place
 place_of flag next period duration =
     cond (eqb flag 0) empty_place (record { held = Holds (record { next = next; period = period; duration = duration }) })
 
@@ -119,27 +117,6 @@ same_words ws vs q same =
     ap (λ (n : ℕ). get_or ws n 0) (omega arith) ∙ same 0 (omega arith) ∙ ap (λ (n : ℕ). get_or vs n 0) (omega arith) in
     λ i.
     place_of (first i) (same 1 (omega arith) i) (same 2 (omega arith) i) (same 3 (omega arith) i)
-
--- a word of a chunk is the word there
-chunk_read :
-    (n : ℕ) (ws : List ℕ) (q k : ℕ) → q < n → k < 4 → get_or (get_or (first_chunks 4 n ws) q []) k 0 ≡ get_or ws (q * place_length + k) 0
-chunk_read zero ws q k h l = absurd (omega arith)
-chunk_read (suc n) ws zero k h l = get_or-take 4 ws k 0 l ∙ ap (λ (m : ℕ). get_or ws m 0) (omega arith)
-chunk_read (suc n) ws (suc q) k h l =
-    chunk_read n (drop 4 ws) q k (omega arith) l ∙ get_or-drop 4 ws (q * place_length + k) 0 ∙ ap (λ (m : ℕ). get_or ws m 0) (omega arith)
-
--- so a chunk is a place by its four words
-pub chunk_place :
-    (n : ℕ) (ws : List ℕ) (q : ℕ) (chunks : List (List ℕ)) → chunks ≡ first_chunks 4 n ws → q < n →
-    place_of (get_or (get_or chunks q []) 0 0) (get_or (get_or chunks q []) 1 0) (get_or (get_or chunks q []) 2 0) (get_or (get_or chunks q []) 3 0)
-    ≡ place_in ws q
-unfolding place_in
-chunk_place n ws q chunks e h =
-    let word : (k : ℕ) → k < 4 → get_or (get_or chunks q []) k 0 ≡ get_or ws (q * place_length + k) 0 =
-    λ k l. ap (λ (cs : List (List ℕ)). get_or (get_or cs q []) k 0) e ∙ chunk_read n ws q k h l in
-    let first : get_or (get_or chunks q []) 0 0 ≡ get_or ws (q * place_length) 0 =
-    word 0 (omega arith) ∙ ap (λ (m : ℕ). get_or ws m 0) (omega arith) in
-    λ i. place_of (first i) (word 1 (omega arith) i) (word 2 (omega arith) i) (word 3 (omega arith) i)
 
 module _ (ws : List ℕ) (all : length ws ≡ word_count) where
   module _ (q : ℕ) (h : q < place_count) (p : Place) where
