@@ -1,8 +1,8 @@
 #!/usr/bin/env bash
-# Counts, in the crates of a checkout, the places where an older form may stand. Usage: count.sh DIR. Reads crates/*/src/*.rt and proofs/.
+# Counts, in the crates of a checkout, the places where an older form may stand. Usage: count_forms.sh DIR. Reads crates/*/src/*.rt and proofs/.
 # Each list is `file:line: text`; a list is places to look at, and its total is the number of its lines.
 set -u
-cd "${1:?count.sh DIR}" || exit 2
+cd "${1:?count_forms.sh DIR}" || exit 2
 sources=$(ls crates/*/src/*.rt)
 totals=$(mktemp)
 trap 'rm -f "$totals"' EXIT
