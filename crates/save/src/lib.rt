@@ -59,6 +59,7 @@ fn put_records(row: &[u32], out: &mut [u8])
 
 // Writes a row as a stored table to the front of `out`, in lowest terms, colliding or not, and answers how many bytes it
 // has; what follows them is kept. Refusals: 1; then train by train 2, 3 and 4; then 8.
+// An export has the same order of check, room and writing, and nothing else in common with it.
 #[tactic(auto, using(table::proofs::Entries::entries_length), unfolding(stored::specs::Answer::save_check, stored::specs::Answer::saved_in))]
 pub fn save(row: &[u32], out: &mut [u8]) -> Result<usize, Refusal>
     ensures answer { result ≡ saved row.now (length out.old) }

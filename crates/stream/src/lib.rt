@@ -52,6 +52,7 @@ fn reason<'a>(error: &Error, words: &'a [u8]) -> &'a [u8] {
 fn say<E: Write>(errors: &mut E, what: &[u8], error: Error) -> Fault {
     let mut words = Cursor::new([0u8; WORDS]);
     let _written = write!(words, "{error}");
+    // `as`, since a usize has no `From` of 64 bits.
     let length = (words.position() as usize).min(WORDS);
     let words = words.into_inner();
     for part in [what, b": ", reason(&error, &words[..length]), b"\n"] {
@@ -133,7 +134,8 @@ fn write_some<W: Write, E: Write>(
     }
 }
 
-// Writes all of the bytes. No bytes are written without a call.
+// Writes all of the bytes. No bytes are written without a call. It goes by what is left, since how much goes at once is known only
+// when it is gone.
 pub fn write<W: Write, E: Write>(output: &mut W, errors: &mut E, bytes: &[u8]) -> Result<(), Fault>
     ensures { OnOk result (Appends (W.contents output.old) (W.contents output.new) bytes.now) }
 {
