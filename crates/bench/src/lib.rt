@@ -274,7 +274,7 @@ pub fn urzabelki_fresh(words: &mut [u32; words::LENGTH], count: u32)
     words::fresh(words, count)
 }
 
-// Admits a train.
+// Admits a train. The three numbers stand apart, as C has them.
 #[tactic(auto, using(crate::proofs::Dispatching::admit_fits))]
 pub fn urzabelki_admit(
     words: &mut [u32; words::LENGTH],

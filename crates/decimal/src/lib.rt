@@ -33,6 +33,7 @@ fn put_digits(n: u64, digits: &mut [u8])
     let mut left = n;
     // By places and not `iter_mut().rev()`: what such a loop has written to the slice is in no fact that a proof can name.
     for place in (0..digits.len()).rev() {
+        // `as`, since a u8 has no `From` of 64 bits; a digit is below ten.
         digits[place] = b'0' + (left % 10) as u8;
         left /= 10;
     }

@@ -91,7 +91,8 @@ fn put_record(entry: Entry, text: &mut [u8]) -> usize
     third + 2
 }
 
-// Writes the records of all trains of a row to the front, and answers where they end.
+// Writes the records of all trains of a row to the front, and answers where they end. That is no sum of an iterator: where one ends
+// the next begins.
 fn put_records(row: &[u32], text: &mut [u8]) -> usize
     requires { length (lines_of row.now) ≤ length text.old }
     ensures end { result ≡ length (lines_of row.now) }

@@ -83,7 +83,7 @@ impl Fraction {
 }
 
 // The multiple of some denominators and one more, as long as it is within the limit. Where it has passed the limit there is none,
-// and stays none.
+// and stays none: so it takes an Option, as is promised.
 pub fn including(multiple: Option<u32>, denominator: u32) -> Option<u32>
     ensures answer { result ≡ included multiple denominator }
     ensures constant { LIMIT ≡ limit }

@@ -82,7 +82,7 @@ fn call(dispatcher: Dispatcher, said: Option<Call>) -> Called<Printed>
     }
 }
 
-// Writes the line of what is printed at an index, if there is room for it.
+// Writes the line of what is printed at an index, if there is room for it. It has an arm for each: each has its own word and numbers.
 #[tactic(auto, unfolding(crate::specs::Lines::line_of))]
 fn put(printed: Printed, out: &mut [u8], at: usize) -> Result<usize, Refusal>
     ensures within { Within (shown_of printed) }

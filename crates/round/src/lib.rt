@@ -10,8 +10,8 @@ use stored::LONGEST;
 use table::Table;
 
 // Saves a row, loads what was written into `back`, and answers how many trains stand there: those of the row in lowest
-// terms. The buffer is as long as the longest stored table, so it is never too short. Refusals: 1; then train by train 2, 3
-// and 4; then 8 for `back`.
+// terms. The buffer is an array, since no heap is used, and as long as the longest stored table, so it is never too short.
+// Refusals: 1; then train by train 2, 3 and 4; then 8 for `back`.
 // Each of the two names its two calls, as its contract does: one function over both calls as closures would be longer than these.
 #[tactic(auto, unfolding(crate::specs::Answer::kept_in))]
 pub fn save_and_load(row: &[u32], back: &mut [u32]) -> Result<usize, Refusal>

@@ -112,7 +112,7 @@ impl From<[u32; Table::NUMBERS]> for Entry {
 
 impl Entry {
     // The entry at a position of a row; three times without a denominator where there is none.
-    // It is no Option: the entry of a position without a train is promised to each caller, and 2 refuses it.
+    // It is no Option: the entry of a position without a train is promised, and 2 refuses it. Nothing here calls it.
     pub fn at(row: &[u32], position: usize) -> Entry
         ensures { result ≡ get_or (entries row.now) position no_entry }
     {
@@ -159,7 +159,7 @@ impl Entry {
         self.period.numerator == 0 || self.duration.numerator == 0
     }
 
-    // Refusals 2, 3 and 4, for the train at a position.
+    // Refusals 2, 3 and 4, for the train at a position. One test after the other: their order is what is promised.
     #[tactic(auto, unfolding(crate::specs::Answer::entry_check))]
     pub fn check(self, position: usize) -> Result<(), Refusal>
         ensures { result ≡ entry_check position self }

@@ -56,6 +56,7 @@ fn place_at(words: &[u32; LENGTH], place: usize) -> Place
 fn lowest(words: &[u32; LENGTH], sought: Sought) -> Option<usize>
     ensures { result ≡ lowest_place (is_sought sought) (places_in words.now) }
 {
+    // by positions, since the place is what is answered
     (0..Dispatcher::PLACES).find(|place| place_at(words, *place).is(sought))
 }
 
