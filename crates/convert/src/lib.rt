@@ -9,7 +9,8 @@ use refusal::Refusal;
 use table::Table;
 
 // Imports a listing, saves its trains to the front of `bytes`, and answers how many bytes stand there; what follows them is kept. The
-// row is an array, since no heap is used, and as long as the longest table, so it is never too short. Refusals: 7; 18; 1; then train by train 3 and 4; then 8 for `bytes`.
+// row is an array, since no heap is used, and as long as the longest table, so it is never too short. Refusals: 7; 18; 1; then train by
+// train 3 and 4; then 8 for `bytes`.
 // Each of the two names its two calls, as its contract does: one function over both calls as closures would be longer than these.
 #[tactic(auto, using(crate::proofs::Storing::store_within), unfolding(crate::specs::Answer::store_leaves))]
 pub fn store(text: &[u8], bytes: &mut [u8]) -> Result<usize, Refusal>
@@ -22,7 +23,8 @@ pub fn store(text: &[u8], bytes: &mut [u8]) -> Result<usize, Refusal>
 }
 
 // Loads a stored table, exports its trains to the front of `text`, and answers how many bytes stand there; what follows them is kept. The
-// row is an array, since no heap is used, and as long as the longest table, so it is never too short. Refusals: those of loading; then 8 for `text`.
+// row is an array, since no heap is used, and as long as the longest table, so it is never too short. Refusals: those of loading; then
+// 8 for `text`.
 #[tactic(auto, using(crate::proofs::Listings::list_within), unfolding(crate::specs::Answer::list_leaves))]
 pub fn list(bytes: &[u8], text: &mut [u8]) -> Result<usize, Refusal>
     ensures answer { result ≡ list_answer bytes.now (length text.old) }
