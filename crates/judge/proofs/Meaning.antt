@@ -47,9 +47,7 @@ data View (row : List ℕ) : Type 0 where
       verdict row ≡ v.Accepted (record { multiple = multiple (entries row); divisions = d }) → View row
   meets :
       (i j d : ℕ) → refusal row ≡ Ok tt → scan (train_at (trains row)) (pairs (length (trains row))) 0 ≡ collides_at (record { first = i; second = j }) d →
-      verdict row
-      ≡ v.Collide (record { first = i; second = j; tick = tick_of (earliest (train_at (trains row) i) (train_at (trains row) j)) })
-      (record { multiple = multiple (entries row); divisions = d }) → View row
+      verdict row ≡ found (multiple (entries row)) (train_at (trains row)) (collides_at (record { first = i; second = j }) d) → View row
 
 view : (row : List ℕ) → View row
 view row = outcomes (refusal row) refl
