@@ -4,7 +4,7 @@
 // name, as those over memory; of those of the system it cannot.
 #![tactic(auto)]
 
-ghost use Rattle.std.specs.Prelude.{◌≤◌, ◌<◌, length, take, IfOk, OnOk};
+ghost use Rattle.std.specs.Prelude.{◌≡◌, ◌≤◌, ◌<◌, length, take, IfOk, OnOk};
 ghost use Rattle.std.specs.Io.{ReadsAtMost, WritesAtMost};
 ghost use Rattle.std.specs.Io.KnownBytes.{Appends};
 ghost use Rattle.stream.specs.Reading.{Taken, EndedAtNone, EndedShort};
@@ -38,7 +38,9 @@ fn again(error: &Error) -> bool {
 }
 
 // The reason among the words of an error: behind that of a call of the system stands the number of the error, in brackets.
-fn reason<'a>(error: &Error, words: &'a [u8]) -> &'a [u8] {
+fn reason<'a>(error: &Error, words: &'a [u8]) -> &'a [u8]
+    ensures { result.now ≡ take (length result.now) words.now }
+{
     if error.raw_os_error().is_none() {
         return words;
     }
