@@ -6,6 +6,7 @@
 --     idle_kind, starts_kind, goes_on_kind
 --                             the kinds of a step
 --     kind_number kind          the number of a kind of the code
+--     kind_of n                 the kind with a number; each kind is given back by its own (kind_back)
 --     Parts                     a refusal's number, a kind and a value
 --     kind_unit, number_unit    what one kind counts in the number that is handed back, and one number of a refusal
 --     code p                    the number that holds the three
@@ -21,7 +22,8 @@
 --     figure_count           how many figures there are
 --     figures_in v before    the figures after a verdict
 --     longest_line           the bytes of the longest line that a call writes
-use Rattle.std.specs.Prelude.{ℕ, ◌+◌, ◌*◌, ◌/◌, ◌%◌, ◌^◌, ◌<◌, ◌≡◌, ◌↔◌, List, [], ◌∷◌, Result, Ok, Err}
+use Rattle.std.specs.Prelude.{ℕ, ◌+◌, ◌*◌, ◌/◌, ◌%◌, ◌^◌, ◌<◌, ◌≡◌, ◌↔◌, cond, eqb, List, [], ◌∷◌, Result, Ok, Err}
+use mathlib.Core.Path.{refl}
 use Rattle.std.proofs.lemmas.List.Edits.{sets}
 use Rattle.refusal.specs.declared.Refusal.{Refusal}
 use Rattle.refusal.specs.Paper.{paper}
@@ -69,6 +71,27 @@ kind_number kinds.Collide = collide_kind
 kind_number kinds.Idle = idle_kind
 kind_number kinds.Starts = starts_kind
 kind_number kinds.GoesOn = goes_on_kind
+
+-- The kind with a number; of a number that no kind has it is that of a refusal.
+abbrev pub kind_of : ℕ → Kind
+kind_of n =
+    cond (eqb n done_kind) kinds.Done
+    (cond (eqb n accepted_kind) kinds.Accepted
+    (cond (eqb n collide_kind) kinds.Collide
+    (cond (eqb n idle_kind) kinds.Idle
+    (cond (eqb n starts_kind) kinds.Starts
+    (cond (eqb n goes_on_kind) kinds.GoesOn
+    kinds.Refused)))))
+
+-- Each kind is given back by its number, so an answer is known by what it holds, and can be copied.
+pub kind_back : (kind : Kind) → kind_of (kind_number kind) ≡ kind
+kind_back kinds.Refused = refl
+kind_back kinds.Done = refl
+kind_back kinds.Accepted = refl
+kind_back kinds.Collide = refl
+kind_back kinds.Idle = refl
+kind_back kinds.Starts = refl
+kind_back kinds.GoesOn = refl
 
 -- What an answer holds: the number of the refusal, which is 0 where there is none, a kind, and a place, a length or a count.
 pub record Parts : Type 0 where

@@ -20,6 +20,7 @@ use refusal::Refusal;
 use std::marker::Model;
 
 // Where each figure of a verdict stands. The header has the same numbers.
+#[derive(Clone, Copy)]
 enum Figure {
     // L.
     Multiple,
@@ -68,7 +69,7 @@ const KIND_UNIT: u64 = 1 << 32;
 const NUMBER_UNIT: u64 = KIND_UNIT << 8;
 
 // What the number that is handed back holds: a refusal's number, a kind, and a place, a length or a count.
-#[derive(Drop)]
+#[derive(Clone, Copy)]
 struct Answer {
     number: u32,
     kind: Kind,
@@ -76,11 +77,15 @@ struct Answer {
 }
 
 impl Model for Answer {
-    ghost use Rattle.bench.specs.Answer.{Parts, kind_number};
+    ghost use Rattle.bench.specs.Answer.{Parts, kind_number, kind_of, kind_back};
 
     ghost Value = { Parts };
 
     ghost view = { λ a. record { number = a.number; kind = kind_number a.kind; value = a.value } };
+
+    ghost inverse = { λ p. record { number = p.number; kind = kind_of p.kind; value = p.value } };
+
+    ghost inverse_ok = { λ a h i. record { number = a.number; kind = kind_back a.kind i; value = a.value } };
 }
 
 impl Answer {

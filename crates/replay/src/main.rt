@@ -26,7 +26,7 @@ const NEARLY_FULL: usize = ROOM - Played::LONGEST;
 
 // The line that is being read, as far as it is kept: in fixed memory, so its length stands beside the bytes. The answers below are bytes
 // with a length too, but not a second `Line`: none of them is left out, and they are written where the next might find no room.
-#[derive(Drop)]
+#[derive(Clone, Copy)]
 struct Line {
     bytes: [u8; KEPT],
     length: usize,
