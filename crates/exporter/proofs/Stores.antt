@@ -185,6 +185,15 @@ module _ (row : List ℕ) (room : ℕ) where
 
 -- ---- The whole text
 
+-- with room for all of it the heading is written, and the records begin where it ends
+module _ (row before : List ℕ) (there : true ≡ leb (length (text_of (map lowest_entry (entries row)))) (length before)) where
+  pub heading_end : (heading : List ℕ) (head : ℕ) → head ≡ end_in (length before) 0 heading → length heading ≡ 23 → head ≡ 23
+  heading_end heading head is long =
+      is ∙ end_room (length before) 0 heading (omega (arith, long, room_there row (length before) there)) ∙ omega (arith, long)
+
+  heading_there : (front : List ℕ) → front ≡ fitted before 0 heading_text → front ≡ over before 0 heading_text
+  heading_there front is = is ∙ fitted_room before 0 heading_text (omega (arith, room_there row (length before) there))
+
 module _ (row : List ℕ) (end : ℕ) (end_is : end ≡ 23 + length (flat_map record_text (map lowest_entry (entries row)))) where
   long : length (text_of (map lowest_entry (entries row))) ≡ end
   long = text_length_lem (map lowest_entry (entries row)) ∙ sym end_is
@@ -196,15 +205,18 @@ module _ (row : List ℕ) (end : ℕ) (end_is : end ≡ 23 + length (flat_map re
       ap Ok (sym long) ∙ way_written row room o o_is passed (omega (arith, text_length_lem (map lowest_entry (entries row))))
 
   pub text_written :
-      (before heading records : List ℕ) → end ≤ length before → heading ≡ heading_text →
-      records ≡ over (take (length (heading ++ drop 23 before) - 23) (drop 23 (heading ++ drop 23 before))) 0 (flat_map record_text (map lowest_entry (entries row))) →
-      put_mid 23 (length (heading ++ drop 23 before) - 23) (heading ++ drop 23 before) records ≡ exported_in (Ok end) row before
+      (before front records : List ℕ) (head : ℕ) →
+      true ≡ leb (length (text_of (map lowest_entry (entries row)))) (length before) →
+      head ≡ end_in (length before) 0 heading_text → front ≡ fitted before 0 heading_text →
+      records ≡ over (take (length front - head) (drop head front)) 0 (flat_map record_text (map lowest_entry (entries row))) →
+      put_mid head (length front - head) front records ≡ exported_in (Ok end) row before
   unfolding exported_in text_of
-  text_written before heading records fits heading_is wrote =
+  text_written before front records head there head_is front_is wrote =
       let lines : List ℕ = flat_map record_text (map lowest_entry (entries row)) in
-      let front : heading ++ drop 23 before ≡ over before 0 heading_text =
-      ap (λ (h : List ℕ). h ++ drop 23 before) heading_is ∙ sym (over_front before heading_text 23 refl) in
-      let same : length (heading ++ drop 23 before) ≡ length before = ap length front ∙ length_over before 0 heading_text (omega arith) in
-      over_tail (heading ++ drop 23 before) lines records 23 (omega arith) wrote
-      ∙ over_then before (heading ++ drop 23 before) heading_text lines 0 23 (omega arith) refl front
+      let fits = room_there row (length before) there in
+      let at : head ≡ 23 = heading_end row before there heading_text head head_is refl in
+      let written : front ≡ over before 0 heading_text = heading_there row before there front front_is in
+      let same : length front ≡ length before = ap length written ∙ length_over before 0 heading_text (omega (arith, fits)) in
+      over_tail front lines records head (omega (arith, fits)) wrote
+      ∙ over_then before front heading_text lines 0 head (omega arith) (sym at) written
       ∙ over_front before (heading_text ++ lines) end long

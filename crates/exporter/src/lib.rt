@@ -107,7 +107,7 @@ fn put_records(row: &[u32], text: &mut [u8]) -> usize
 
 // Writes a row as a listing to the front of `text`, in lowest terms, colliding or not, and answers how many bytes it has; what
 // follows them is kept. Refusals: 1; then train by train 2, 3 and 4; then 8.
-#[tactic(auto, using(crate::proofs::Stores::room_there), unfolding(listing::specs::Answer::exported_in))]
+#[tactic(auto, unfolding(listing::specs::Answer::exported_in))]
 pub fn export(row: &[u32], text: &mut [u8]) -> Result<usize, Refusal>
     ensures answer { result ≡ exported row.now (length text.old) }
     ensures bytes { text.new ≡ exported_in result row.now text.old }
@@ -117,6 +117,7 @@ pub fn export(row: &[u32], text: &mut [u8]) -> Result<usize, Refusal>
     if !has_room(row, text.len()) {
         return Err(Refusal::BufferTooShort);
     }
-    text[..HEADING.len()].copy_from_slice(&HEADING);
-    Ok(HEADING.len() + put_records(row, &mut text[HEADING.len()..]))
+    // There is room, so all of the heading is written, and the records begin where it ends.
+    let behind = lent::put(&HEADING, text, 0);
+    Ok(behind + put_records(row, &mut text[behind..]))
 }

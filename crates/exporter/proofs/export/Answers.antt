@@ -1,11 +1,12 @@
 -- `export` meets its contract: the checks, the room, and then the heading and the records.
 use Prim.Native.Nat.{◌+◌}
-use mathlib.Core.Path.{ap}
+use mathlib.Core.Path.{refl}
 use native.Mathlib.Omega.{arith}
-use lib.ListN.{length}
+use lib.ListN.{length, length-drop}
 use Rattle.std.proofs.Common.{rules}
+use Rattle.std.proofs.lemmas.List.{take_rest}
 use Rattle.listing.proofs.Exporting.{way_checked, way_short}
-use Rattle.exporter.proofs.Stores.{room_short, room_there, text_answers, text_written}
+use Rattle.exporter.proofs.Stores.{room_short, room_there, heading_end, text_answers, text_written}
 use Rattle.exporter.proofs.export.Goals as goal
 
 pub returns-in_err-check-clause-answer : goal.returns-in_err-check-clause-answer
@@ -16,12 +17,36 @@ pub returns-then-not-has_room-clause-answer : goal.returns-then-not-has_room-cla
 returns-then-not-has_room-clause-answer c =
     way_short _ _ _ c.check.ensures c.in_ok-check.was (room_short _ _ c.if-not-has_room.ensures)
 
+pub slice_bounds-put_records-count : goal.slice_bounds-put_records-count
+slice_bounds-put_records-count c =
+    let there = c.if-not-has_room.ensures in
+    omega (arith, heading_end _ _ there _ _ c.put-behind.ensures.end refl, room_there _ _ there, c.put-behind.auto.out)
+
+pub slice_bounds-put_records-start : goal.slice_bounds-put_records-start
+slice_bounds-put_records-start c =
+    let there = c.if-not-has_room.ensures in
+    omega (arith, heading_end _ _ there _ _ c.put-behind.ensures.end refl, room_there _ _ there, c.put-behind.auto.out)
+
+pub put_records-requires : goal.put_records-requires
+put_records-requires c =
+    let there = c.if-not-has_room.ensures in
+    let head = heading_end _ _ there _ _ c.put-behind.ensures.end refl in
+    simp (take_rest, length-drop) (omega (arith, head, room_there _ _ there, c.put-behind.auto.out))
+
+pub overflow_add-result : goal.overflow_add-result
+overflow_add-result c =
+    let there = c.if-not-has_room.ensures in
+    omega (arith, heading_end _ _ there _ _ c.put-behind.ensures.end refl, room_there _ _ there, c.put_records.ensures.end)
+
 pub returns-clause-answer : goal.returns-clause-answer
 returns-clause-answer c =
-    text_answers _ _ (ap (◌+◌ 23) c.put_records.ensures.end) _ _ c.check.ensures c.in_ok-check.was (room_there _ _ c.if-not-has_room.ensures)
+    let there = c.if-not-has_room.ensures in
+    let head = heading_end _ _ there _ _ c.put-behind.ensures.end refl in
+    text_answers _ _ (λ i. head i + c.put_records.ensures.end i) _ _ c.check.ensures c.in_ok-check.was (room_there _ _ there)
 
 pub returns-clause-bytes : goal.returns-clause-bytes
 returns-clause-bytes c =
-    let end = ap (◌+◌ 23) c.put_records.ensures.end in
-    text_written _ _ end _ _ _ (omega (arith, end, room_there _ _ c.if-not-has_room.ensures)) c.copy_from_slice.ensures.after
-    c.put_records.ensures.bytes
+    let there = c.if-not-has_room.ensures in
+    let put = c.put-behind.ensures in
+    let head = heading_end _ _ there _ _ put.end refl in
+    text_written _ _ (λ i. head i + c.put_records.ensures.end i) _ _ _ _ there put.end put.bytes c.put_records.ensures.bytes
